@@ -1,0 +1,73 @@
+-- A test that antt computes at both orders and at every decision holds at each: so a law of this crate is one computation.
+-- A law that speaks of fewer decisions, or of no order, leaves the others unused.
+-- Assumes nothing.
+use mathlib.Core.Path.{_≡_, refl, sym, ap₂, _∙_}
+use mathlib.Core.Bool.{Bool, true, false, _&&_}
+use Prim.Native.Nat.{ℕ}
+use native.Mathlib.Omega.{arith}
+use Rattle.belnap.specs.declared.Decision.{Decision}
+use Rattle.belnap.specs.declared.Decision.the-variants.{U, D, G, C}
+use Rattle.belnap.specs.declared.orders.Order.{Order}
+use Rattle.belnap.specs.declared.orders.Order.the-variants.{Truth, Knowledge}
+use Rattle.belnap.specs.Decisions.{grants, denies, claiming, alike, same}
+
+-- a conjunction that is true has both parts true
+pub both-parts : (p q : Bool) → (p && q) ≡ true → (p ≡ true) × (q ≡ true)
+both-parts true q e = (refl, e)
+both-parts false q e = absurd (let z : _≡_ {A = ℕ} 0 1 = cc in omega arith)
+
+-- a test at the four decisions, and at the two orders
+abbrev pub every : (Decision → Bool) → Bool
+every p = (p U && p D) && (p G && p C)
+
+abbrev pub inBoth : (Order → Bool) → Bool
+inBoth p = p Truth && p Knowledge
+
+pub at : (p : Decision → Bool) → every p ≡ true → (x : Decision) → p x ≡ true
+at p e x =
+    let halves = both-parts (p U && p D) (p G && p C) e in
+    let low = both-parts (p U) (p D) (halves .0) in
+    let high = both-parts (p G) (p C) (halves .1) in
+    elim x as (λ x. p x ≡ true) [ U ↦ low .0 | D ↦ low .1 | G ↦ high .0 | C ↦ high .1 ]
+
+pub in-order : (p : Order → Bool) → inBoth p ≡ true → (o : Order) → p o ≡ true
+in-order p e o =
+    let halves = both-parts (p Truth) (p Knowledge) e in
+    elim o as (λ o. p o ≡ true) [ Truth ↦ halves .0 | Knowledge ↦ halves .1 ]
+
+-- a test of an order and three decisions, everywhere
+abbrev pub everywhere : (Order → Decision → Decision → Decision → Bool) → Bool
+everywhere p = inBoth (λ o. every (λ x. every (λ y. every (p o x y))))
+
+pub law : (p : Order → Decision → Decision → Decision → Bool) → everywhere p ≡ true →
+    (o : Order) (x y z : Decision) → p o x y z ≡ true
+law p e o x y =
+    at (p o x y) (at (λ y. every (p o x y)) (at (λ x. every (λ y. every (p o x y))) (in-order (λ o. every (λ x. every (λ y. every (p o x y)))) e o) x) y)
+
+-- like claims are equal claims, and decisions with like claims are equal
+pub alike-is : (p q : Bool) → alike p q ≡ true → p ≡ q
+alike-is true q e = sym e
+alike-is false false e = refl
+alike-is false true e = e
+
+claims-of : (x : Decision) → claiming (grants x) (denies x) ≡ x
+claims-of U = refl
+claims-of D = refl
+claims-of G = refl
+claims-of C = refl
+
+pub same-is : (x y : Decision) → same x y ≡ true → x ≡ y
+same-is x y e =
+    let h = both-parts (alike (grants x) (grants y)) (alike (denies x) (denies y)) e in
+    sym (claims-of x)
+    ∙ ap₂ claiming (alike-is (grants x) (grants y) (h .0)) (alike-is (denies x) (denies y) (h .1))
+    ∙ claims-of y
+
+-- two tests with one outcome; two ways to one decision
+pub one-outcome : (f g : Order → Decision → Decision → Decision → Bool) → everywhere (λ o x y z. alike (f o x y z) (g o x y z)) ≡ true →
+    (o : Order) (x y z : Decision) → f o x y z ≡ g o x y z
+one-outcome f g e o x y z = alike-is (f o x y z) (g o x y z) (law (λ o x y z. alike (f o x y z) (g o x y z)) e o x y z)
+
+pub one-decision : (f g : Order → Decision → Decision → Decision → Decision) → everywhere (λ o x y z. same (f o x y z) (g o x y z)) ≡ true →
+    (o : Order) (x y z : Decision) → f o x y z ≡ g o x y z
+one-decision f g e o x y z = same-is (f o x y z) (g o x y z) (law (λ o x y z. same (f o x y z) (g o x y z)) e o x y z)
