@@ -1,0 +1,9 @@
+-- Laws of the table of kinds, of one entry and of reading; below this file, a folder for each function that has a proof of its own.
+pub mod OneEntry
+pub mod KindTable
+pub mod Steps
+pub mod Turns
+pub mod Writing
+pub mod Opening
+pub mod RowPart
+pub mod Laws

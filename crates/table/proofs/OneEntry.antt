@@ -1,0 +1,99 @@
+-- Laws of one entry: its size, its bytes in an output, and what a step says of the bytes.
+-- Assumes nothing.
+use mathlib.Core.Path.{_≡_, refl, sym, ap, _∙_}
+use mathlib.Core.Bool.{Bool, true, false, cond}
+use mathlib.Core.List.{List, [], _∷_, _++_}
+use Prim.Native.Nat.{ℕ, zero, suc, _+_, _-_, _≤_, _<_}
+use native.Mathlib.Omega.{arith}
+use lib.ListN.{length, getD, take, drop, set, length-drop}
+use borrow.Author.Tests.{lt-ltb, le-ltb, le-leb, lt-leb}
+use Rattle.table.specs.declared.kinds.Kind.{Kind}
+use Rattle.table.specs.declared.kinds.Kind.the-variants.{Always, DenyIf, GrantIf, One, Two, Compare, Not, Both}
+use Rattle.table.specs.declared.kinds.Announced.the-variants.{Listed}
+use Rattle.table.specs.declared.entries.Entry.{Entry}
+use Rattle.table.specs.declared.entries.Step.{Step}
+use Rattle.table.specs.declared.entries.Step.the-variants.{Row, Question, Bad}
+use Rattle.table.specs.Kinds.{byteOf, formOf}
+use Rattle.table.specs.Entries.{numbersOf, bytesOf, noRoom, limit, misnamed, numberAt, named, placed, bodyStep, unless, stepBy, over}
+
+-- a body has at most two numbers, and an entry one byte more than its body
+pub few : (k : Kind) → formOf k .numbers < 3
+few (Always v) = omega arith
+few DenyIf = omega arith
+few GrantIf = omega arith
+few (One op) = omega arith
+few (Two op) = omega arith
+few (Compare o) = omega arith
+few Not = omega arith
+few Both = omega arith
+
+pub length-front : (n : ℕ) (a b : ℕ) → n < 3 → length (take n (a ∷ b ∷ [])) ≡ n
+length-front zero a b h = refl
+length-front (suc zero) a b h = refl
+length-front (suc (suc zero)) a b h = refl
+length-front (suc (suc (suc n))) a b h = absurd (omega arith)
+
+pub length-bytes : (e : Entry) → length (bytesOf e) ≡ suc (numbersOf e)
+unfolding bytesOf
+length-bytes e = ap suc (length-front (numbersOf e) (e .a) (e .b) (few (e .kind)))
+
+-- an entry's bytes over the front of an output that is too short, and of one that is long enough
+pub over-short : (e : Entry) (out : List ℕ) → length out ≤ numbersOf e → out ≡ over (bytesOf e) out
+unfolding over
+over-short e out h = let l : length out < length (bytesOf e) = omega (arith, length-bytes e) in simp (lt-leb _ _ l)
+
+pub over-long : (e : Entry) (out : List ℕ) → numbersOf e < length out → bytesOf e ++ drop (length (bytesOf e)) out ≡ over (bytesOf e) out
+unfolding over
+over-long e out h = let l : length (bytesOf e) ≤ length out = omega (arith, length-bytes e) in simp (le-leb _ _ l)
+
+-- the stores that write an entry of no, one and two numbers
+pub put-none : (e : Entry) (out : List ℕ) → numbersOf e < length out → numbersOf e ≡ 0 → set out 0 (byteOf (e .kind)) ≡ over (bytesOf e) out
+unfolding bytesOf
+put-none e [] h q = absurd (omega arith)
+put-none e (x ∷ out) h q = (rw q) ∙ over-long e (x ∷ out) h
+
+pub put-one : (e : Entry) (out : List ℕ) → numbersOf e < length out → numbersOf e ≡ 1 → set (set out 0 (byteOf (e .kind))) 1 (e .a) ≡ over (bytesOf e) out
+unfolding bytesOf
+put-one e [] h q = absurd (omega arith)
+put-one e (x ∷ []) h q = absurd (omega arith)
+put-one e (x ∷ y ∷ out) h q = (rw q) ∙ over-long e (x ∷ y ∷ out) h
+
+pub put-two : (e : Entry) (out : List ℕ) → numbersOf e < length out → numbersOf e ≡ 2 →
+    set (set (set out 0 (byteOf (e .kind))) 1 (e .a)) 2 (e .b) ≡ over (bytesOf e) out
+unfolding bytesOf
+put-two e [] h q = absurd (omega arith)
+put-two e (x ∷ []) h q = absurd (omega arith)
+put-two e (x ∷ y ∷ []) h q = absurd (omega arith)
+put-two e (x ∷ y ∷ z ∷ out) h q = (rw q) ∙ over-long e (x ∷ y ∷ z ∷ out) h
+
+-- the three ways that a body goes
+module _ (kind : Kind) (body : List ℕ) (rows questions : ℕ) where
+  abbrev first : ℕ
+  first = numberAt (formOf kind .numbers) 0 body
+
+  abbrev second : ℕ
+  second = numberAt (formOf kind .numbers) 1 body
+
+  abbrev allNamed : Bool
+  allNamed = named (formOf kind .numbers) (limit (formOf kind .names) rows questions) first second
+
+  pub body-cut : length body < formOf kind .numbers → bodyStep kind body rows questions ≡ Bad 2
+  unfolding bodyStep
+  body-cut h = simp (lt-ltb _ _ h)
+
+  pub body-named : formOf kind .numbers ≤ length body → allNamed ≡ true → bodyStep kind body rows questions ≡ placed (record { kind = kind; a = first; b = second })
+  unfolding bodyStep
+  body-named h e = rw (le-ltb (length body) (formOf kind .numbers) h, e)
+
+  pub body-misnamed : formOf kind .numbers ≤ length body → allNamed ≡ false → bodyStep kind body rows questions ≡ Bad (misnamed (formOf kind .names))
+  unfolding bodyStep
+  body-misnamed h e = rw (le-ltb (length body) (formOf kind .numbers) h, e)
+
+-- a step that a refusal's number may stop
+pub unless-none : (n : ℕ) (s : Step) → n ≡ 0 → unless n s ≡ s
+unless-none zero s e = refl
+unless-none (suc n) s e = absurd (omega arith)
+
+pub unless-some : (n : ℕ) (s : Step) → (n ≡ 0 → ⊥) → unless n s ≡ Bad n
+unless-some zero s h = absurd (h refl)
+unless-some (suc n) s h = refl

@@ -1,0 +1,11 @@
+use Rattle.table.specs.Reading.{tableOf, predicates}
+use borrow.Author.Needs.{needs}
+use Rattle.table.proofs.Table.empty.Statement.{statement}
+use Rattle.table.proofs.Table.empty.Tie as tie
+
+returns : tie.Need-returns
+unfolding tableOf predicates
+returns c = search needs
+
+pub empty-spec : {M : Type 1} → statement M
+empty-spec = tie.close (tie.spec returns)
