@@ -1,4 +1,6 @@
 -- Laws of the table of kinds, of one entry and of reading; below this file, a folder for each function that has a proof of its own.
+pub mod Numbers
+pub mod Padding
 pub mod OneEntry
 pub mod KindTable
 pub mod Steps
@@ -7,3 +9,4 @@ pub mod Writing
 pub mod Opening
 pub mod RowPart
 pub mod Laws
+pub mod Runs

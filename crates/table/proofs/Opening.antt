@@ -1,17 +1,13 @@
--- What a service knows once it has opened a reading, and what the struct of an accepted table holds.
+-- What a service knows once it has opened a reading.
 -- Assumes nothing.
 use mathlib.Core.Path.{_≡_, refl, sym, ap, _∙_}
-use mathlib.Core.List.{List, [], _∷_, _++_}
-use Prim.Native.Nat.{ℕ, _+_, _-_, _≤_, _<_}
+use mathlib.Core.List.{List}
+use Prim.Native.Nat.{ℕ}
 use native.Mathlib.Omega.{arith}
-use lib.ListN.{length, getD, take, replicate, length-append, length-replicate, List·getD-append}
-use lib.Seq.{take-append-le}
-use Rattle.table.specs.declared.entries.Entry.{Entry}
 use Rattle.table.specs.declared.Reading.{Reading}
 use Rattle.table.specs.declared.Outcome.{Outcome}
 use Rattle.table.specs.declared.Outcome.the-variants.{Read, Refused}
-use Rattle.table.specs.Entries.{blank, rowLimit, questionLimit}
-use Rattle.table.specs.Reading.{Contents, Result, accepted, refused, reading, padded, tableOf, shown}
+use Rattle.table.specs.Reading.{Contents, Result, accepted, refused, reading, tableOf, shown}
 use Rattle.table.proofs.Writing.{Whole, of-accepted}
 
 -- a reading that says that it was read
@@ -47,13 +43,3 @@ pub turned : (s : List ℕ) (r : Reading) → r ≡ shown (reading s) → (r .ou
 turned s r q e =
     let o = turned-at r (reading s) q e in
     record { number = o .0; place = o .1; is = o .2; outcome = o .3 }
-
--- a list in its array
-pub padded-length : (n : ℕ) (es : List Entry) → length es ≤ n → length (padded n es) ≡ n
-padded-length n es h = length-append es (replicate (n - length es) blank) ∙ omega (arith, length-replicate (n - length es) blank)
-
-pub padded-at : (n : ℕ) (es : List Entry) (i : ℕ) → i < length es → getD (padded n es) i blank ≡ getD es i blank
-padded-at n es i h = List·getD-append es (replicate (n - length es) blank) blank i h
-
-pub padded-front : (n : ℕ) (es : List Entry) (i : ℕ) → i ≤ length es → take i (padded n es) ≡ take i es
-padded-front n es i h = take-append-le i es (replicate (n - length es) blank) h

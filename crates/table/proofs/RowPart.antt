@@ -20,7 +20,7 @@ use Rattle.table.specs.Reading.{Contents, Result, accepted, refused, rea
 use Rattle.table.specs.Lookup.{placeOf, entryBytes, entryOutcome}
 use Rattle.table.proofs.OneEntry.{length-bytes}
 use Rattle.table.proofs.Writing.{written-append, written-more, of-accepted}
-use Rattle.table.proofs.Opening.{padded-at, padded-front}
+use Rattle.table.proofs.Padding.{padded-at, padded-front}
 
 -- one row more adds its bytes to the start of the next
 pub start-more : (es : List Entry) (i : ℕ) → i < length es → length (written (take (i + 1) es)) ≡ length (written (take i es)) + 1 + numbersOf (getD es i blank)
@@ -60,8 +60,8 @@ pub found-place : (c : Contents) (r start n : ℕ) → r < length (c .rows) → 
     n ≡ numbersOf (getD (tableOf c .rows) r blank) → At start (n + 1) ≡ placeOf (accepted c) r
 unfolding placeOf tableOf
 found-place c r start n h p q =
-    let a = padded-front rowLimit (c .rows) r (omega arith) in
-    let b = padded-at rowLimit (c .rows) r h in
+    let a = padded-front blank rowLimit (c .rows) r (omega arith) in
+    let b = padded-at blank rowLimit (c .rows) r in
     let l = length-bytes (getD (c .rows) r blank) in
     rw (lt-ltb r (length (c .rows)) h, p, q, a, b, l, add-one)
 

@@ -2,12 +2,12 @@
 -- Assumes nothing.
 use mathlib.Core.Path.{_≡_, refl, sym, ap, _∙_}
 use mathlib.Core.Bool.{Bool, true, false, cond}
-use mathlib.Core.List.{List, [], _∷_, _++_, append-assoc}
+use mathlib.Core.List.{List, [], _∷_, _++_}
 use Prim.Native.Nat.{ℕ, zero, suc, _+_, _-_, _≤_, _<_, max}
 use native.Mathlib.Omega.{arith}
 use native.Mathlib.Numerals.{add-one}
-use lib.ListN.{length, getD, take, drop, set, replicate, length-append, length-drop, length-replicate, drop-of-length-le}
-use lib.Seq.{drop-cons, drop-drop, set-at}
+use lib.ListN.{length, getD, take, drop, set, length-append, length-drop, drop-of-length-le}
+use lib.Seq.{drop-cons, drop-drop}
 use lib.Dec.{ltb}
 use borrow.Author.Tests.{ltb-true, ltb-false, lt-ltb}
 use Rattle.table.specs.declared.entries.Entry.{Entry}
@@ -15,7 +15,8 @@ use Rattle.table.specs.declared.entries.Step.{Step}
 use Rattle.table.specs.declared.entries.Step.the-variants.{Row, Question, Bad}
 use Rattle.table.specs.declared.Table.{Table}
 use Rattle.table.specs.Entries.{blank, uses, numbersOf, rowLimit, questionLimit, stepOf, noRoom}
-use Rattle.table.specs.Reading.{Contents, none, withRow, withQuestion, Result, accepted, refused, after, readOn, reading, predicates, padded, tableOf}
+use Rattle.table.specs.Reading.{Contents, none, withRow, withQuestion, Result, accepted, refused, after, readOn, reading, predicates, tableOf}
+use Rattle.table.proofs.Padding.{padded-more}
 use Rattle.table.proofs.Steps.{Took, Said, said-of}
 
 -- how many entries more are looked for does not matter, once there are as many as bytes
@@ -37,13 +38,6 @@ enough (suc f) (suc g) c at (k ∷ s) p q =
     after-same (stepOf k s (length (c .rows)) (length (c .questions))) c at _ _
     (λ n c. enough f g c (at + 1 + n) (drop n s) (omega (arith, length-drop n s)) (omega (arith, length-drop n s)))
 
--- one entry more in an array
-pub padded-more : (n : ℕ) (es : List Entry) (e : Entry) → length es < n → set (padded n es) (length es) e ≡ padded n (es ++ (e ∷ []))
-padded-more n es e h =
-    let m : n - length es ≡ suc (n - length (es ++ (e ∷ []))) = omega (arith, length-append es (e ∷ [])) in
-    rw (m) (set-at es blank (replicate (n - length (es ++ (e ∷ []))) blank) e (length es) refl
-    ∙ sym (append-assoc es (e ∷ []) (replicate (n - length (es ++ (e ∷ []))) blank)))
-
 predicates-more : (es : List Entry) (e : Entry) → predicates (es ++ (e ∷ [])) ≡ max (predicates es) (uses e)
 unfolding predicates
 predicates-more [] e = omega arith
@@ -54,12 +48,12 @@ pub row-more : (t : Table) (c : Contents) (e : Entry) (p : ℕ) → t ≡ tableO
     _≡_ {A = Table} (record { rows = set (t .rows) (t .used) e; questions = t .questions; used = t .used + 1; asked = t .asked; predicates = p }) (tableOf (withRow c e))
 unfolding tableOf
 row-more t c e p q h r =
-    rw (r, q, padded-more rowLimit (c .rows) e h, predicates-more (c .rows) e, length-append (c .rows) (e ∷ []))
+    rw (r, q, padded-more blank rowLimit (c .rows) e h, predicates-more (c .rows) e, length-append (c .rows) (e ∷ []))
 
 pub question-more : (t : Table) (c : Contents) (e : Entry) → t ≡ tableOf c → length (c .questions) < questionLimit →
     _≡_ {A = Table} (record { rows = t .rows; questions = set (t .questions) (t .asked) e; used = t .used; asked = t .asked + 1; predicates = t .predicates }) (tableOf (withQuestion c e))
 unfolding tableOf
-question-more t c e q h = rw (q, padded-more questionLimit (c .questions) e h, length-append (c .questions) (e ∷ []))
+question-more t c e q h = rw (q, padded-more blank questionLimit (c .questions) e h, length-append (c .questions) (e ∷ []))
 
 -- what holds at the loop's head: the struct stands for what was read so far, and reading on from there is reading the whole
 pub record At (s : List ℕ) (t : Table) (at : ℕ) : Type 0 where

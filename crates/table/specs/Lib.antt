@@ -1,5 +1,6 @@
--- What the promises of this crate mean: the table of kinds, one entry, a table as it is read, and one entry taken out.
+-- What the promises of this crate mean: the table of kinds, one entry, a table as it is read, one entry taken out, and entries as runs of numbers.
 pub mod Kinds
 pub mod Entries
 pub mod Reading
 pub mod Lookup
+pub mod Flat

@@ -59,15 +59,15 @@ unfoldable pub written : List Entry → List ℕ
 written [] = []
 written (e ∷ es) = bytesOf e ++ written es
 
--- a list in an array of so many places: behind it the places are blank
-abbrev pub padded : ℕ → List Entry → List Entry
-padded n es = es ++ replicate (n - length es) blank
+-- a list in an array of so many places: z stands behind it
+abbrev pub padded : {A : Type 0} → A → ℕ → List A → List A
+padded z n l = l ++ replicate (n - length l) z
 
 -- the struct that stands for a table's contents
 unfoldable pub tableOf : Contents → Table
 tableOf c = record {
-  rows = padded rowLimit (c .rows);
-  questions = padded questionLimit (c .questions);
+  rows = padded blank rowLimit (c .rows);
+  questions = padded blank questionLimit (c .questions);
   used = length (c .rows);
   asked = length (c .questions);
   predicates = predicates (c .rows);

@@ -1,5 +1,6 @@
 // The table: its type and limits, reading it from bytes, and one entry out of it.
 pub mod entries;
+pub mod flat;
 pub mod kinds;
 pub mod lookup;
 

@@ -1,4 +1,5 @@
-use Rattle.table.proofs.Opening.{opened, turned, padded-length}
+use Rattle.table.proofs.Opening.{opened, turned}
+use Rattle.table.proofs.Padding.{padded-length}
 use Rattle.table.proofs.RowPart.{found-place}
 use Rattle.table.specs.Lookup.{missingOf, placeOf}
 use mathlib.Core.List.{List}
@@ -47,7 +48,7 @@ start-of-requires c κs =
     let row = c .before .before .before .before .before .before .before .before .args .row in
     let o = opened s (c .before .before .before .before .before .before .read .result) (c .before .before .before .before .before .before .read .ensures) (c .before .before .before .before .enum-told .given .1) in
     let used = ap (λ (t : Table). t .used) (o .table) in
-    let l = padded-length rowLimit (o .contents .rows) (o .whole .rows-fit) in
+    let l = padded-length blank rowLimit (o .contents .rows) (o .whole .rows-fit) in
     (omega (arith, rw used at (c .before .before .if1 .left), o .whole .rows-fit), omega (arith, l, ap (λ (t : Table). length (t .rows)) (o .table)))
 
 returns-3 : tie.Need-returns-3

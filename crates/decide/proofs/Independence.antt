@@ -1,0 +1,93 @@
+-- Data independence (002, as 01 condenses it): requests that agree on every predicate that a row reaches get the same decision from it.
+-- Assumes nothing.
+use mathlib.Core.Path.{_≡_, refl, sym, ap, ap₂, _∙_}
+use mathlib.Core.Bool.{Bool, true, false, cond, _||_}
+use mathlib.Core.List.{List}
+use Prim.Native.Nat.{ℕ, _+_, _≤_, _<_}
+use native.Mathlib.Omega.{arith}
+use lib.ListN.{getD}
+use lib.Dec.{eqb}
+use borrow.Author.Tests.{eqb-true, eq-eqb}
+use Rattle.belnap.specs.declared.Decision.{Decision}
+use Rattle.belnap.specs.declared.Decision.the-variants.{U, D, G, C}
+use Rattle.belnap.specs.Operators.{one, two}
+use Rattle.table.specs.declared.kinds.Kind.{Kind}
+use Rattle.table.specs.declared.kinds.Kind.the-variants.{Always, DenyIf, GrantIf, One, Two, Compare, Not, Both}
+use Rattle.table.specs.declared.entries.Entry.{Entry}
+use Rattle.table.specs.Kinds.{formOf}
+use Rattle.table.specs.Entries.{blank, uses, usedBy}
+use Rattle.table.specs.Reading.{predicates}
+use Rattle.table.proofs.Numbers.{by-order}
+use Rattle.table.proofs.Laws.{used-below}
+use Rattle.decide.specs.Rows.{values, valueAt}
+use Rattle.decide.specs.Meaning.{bit, decideBy, decides, decision}
+use Rattle.decide.specs.Reach.{reachBy, nowhere, reaches}
+use Rattle.decide.proofs.RowByRow.{by-rows, before-there, before-past}
+
+or-left : (a b : Bool) → a ≡ true → (a || b) ≡ true
+or-left a b e = rw e
+
+or-right : (a b : Bool) → b ≡ true → (a || b) ≡ true
+or-right true b e = refl
+or-right false b e = e
+
+-- two requests agree on some predicates
+abbrev pub Agree : (ℕ → Bool) → ℕ → ℕ → Type 0
+Agree on m o = (p : ℕ) → on p ≡ true → bit m p ≡ bit o p
+
+-- one row, from the rows that it names
+row-agrees : (k : Kind) (a m o : ℕ) (x y u v : Decision) (s t : ℕ → Bool) → Agree (reachBy k a s t) m o →
+    (Agree s m o → x ≡ u) → (Agree t m o → y ≡ v) → decideBy k a m x y ≡ decideBy k a o u v
+unfolding decideBy
+row-agrees (Always w) a m o x y u v s t h p q = refl
+row-agrees DenyIf a m o x y u v s t h p q = rw (h a (eq-eqb a a refl))
+row-agrees GrantIf a m o x y u v s t h p q = rw (h a (eq-eqb a a refl))
+row-agrees (One op) a m o x y u v s t h p q = ap (one op) (p h)
+row-agrees (Two op) a m o x y u v s t h p q =
+    ap₂ (two op) (p (λ i e. h i (or-left (s i) (t i) e))) (q (λ i e. h i (or-right (s i) (t i) e)))
+row-agrees (Compare c) a m o x y u v s t h p q = refl
+row-agrees Not a m o x y u v s t h p q = refl
+row-agrees Both a m o x y u v s t h p q = refl
+
+abbrev reach : Entry → (ℕ → Bool) → (ℕ → Bool) → ℕ → Bool
+reach e x y = reachBy (e .kind) (e .a) x y
+
+pub independent : (rows : List Entry) (m o r : ℕ) → Agree (reaches rows r) m o → decision rows m r ≡ decision rows o r
+unfolding valueAt
+independent rows m o = by-rows (λ r. Agree (reaches rows r) m o → decision rows m r ≡ decision rows o r) (λ r ih agree.
+    let e = getD rows r blank in
+    let at : (x : ℕ) → Agree (getD (values reach nowhere rows r) x nowhere) m o → getD (values (decides m) U rows r) x U ≡ getD (values (decides o) U rows r) x U =
+    λ x g. by-order x r
+    (λ h. rw (before-there (decides m) U rows r x h, before-there (decides o) U rows r x h) (ih x h (rw (before-there reach nowhere rows r x h) at g)))
+    (λ h. rw (before-past (decides m) U rows r x h, before-past (decides o) U rows r x h)) in
+    row-agrees (e .kind) (e .a) m o _ _ _ _ _ _ agree (at (e .a)) (at (e .b)))
+
+-- a row reaches only predicates below n
+row-below : (k : Kind) (a b n p : ℕ) (s t : ℕ → Bool) → usedBy (formOf k .names) a ≤ n → (s p ≡ true → p < n) → (t p ≡ true → p < n) →
+    reachBy k a s t p ≡ true → p < n
+row-below (Always v) a b n p s t u f g e = absurd (let z : _≡_ {A = ℕ} 0 1 = cc in omega arith)
+row-below DenyIf a b n p s t u f g e = omega (arith, eqb-true p a e)
+row-below GrantIf a b n p s t u f g e = omega (arith, eqb-true p a e)
+row-below (One op) a b n p s t u f g e = f e
+row-below (Two op) a b n p s t u f g e = either (s p) (t p) e f g
+  where
+    either : {P : Type 0} (a b : Bool) → (a || b) ≡ true → (a ≡ true → P) → (b ≡ true → P) → P
+    either true b e f g = f refl
+    either false b e f g = g e
+row-below (Compare o) a b n p s t u f g e = absurd (let z : _≡_ {A = ℕ} 0 1 = cc in omega arith)
+row-below Not a b n p s t u f g e = absurd (let z : _≡_ {A = ℕ} 0 1 = cc in omega arith)
+row-below Both a b n p s t u f g e = absurd (let z : _≡_ {A = ℕ} 0 1 = cc in omega arith)
+
+pub reach-below : (rows : List Entry) (p r : ℕ) → reaches rows r p ≡ true → p < predicates rows
+unfolding valueAt
+reach-below rows p = by-rows (λ r. reaches rows r p ≡ true → p < predicates rows) (λ r ih.
+    let e = getD rows r blank in
+    let at : (x : ℕ) → getD (values reach nowhere rows r) x nowhere p ≡ true → p < predicates rows =
+    λ x. by-order x r
+    (λ h. rw (before-there reach nowhere rows r x h) (ih x h))
+    (λ h. rw (before-past reach nowhere rows r x h) (λ q. absurd (let z : _≡_ {A = ℕ} 0 1 = cc in omega arith))) in
+    row-below (e .kind) (e .a) (e .b) (predicates rows) p _ _ (used-below rows r) (at (e .a)) (at (e .b)))
+
+-- "Predicates from n up may be given and change nothing."
+pub beyond-n : (rows : List Entry) (m o r : ℕ) → ((p : ℕ) → p < predicates rows → bit m p ≡ bit o p) → decision rows m r ≡ decision rows o r
+beyond-n rows m o r h = independent rows m o r (λ p e. h p (reach-below rows p r e))

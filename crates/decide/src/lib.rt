@@ -1,0 +1,78 @@
+// What a row decides at a complete request.
+use belnap::Decision;
+use table::Table;
+use table::entries;
+use table::kinds::Kind;
+ghost use mathlib.Core.Path.{_≡_};
+ghost use Prim.Native.Nat.{_≤_};
+ghost use Rattle.belnap.specs.declared.Decision.the-variants.{U};
+ghost use Rattle.table.specs.Reading.{padded};
+ghost use Rattle.decide.specs.Rows.{values};
+ghost use Rattle.decide.specs.Meaning.{bit, decideBy, decides, decisionIn};
+
+// A predicate's bit of a mask.
+pub fn bit_of(mask: u32, predicate: u8) -> bool
+    ensures { λ r. ⌜ r ≡ bit mask predicate ⌝ }
+{
+    if 32 <= predicate {
+        return false;
+    }
+    (mask >> predicate) % 2 == 1
+}
+
+// What a row decides where the rows that it names decide x and y.
+pub fn decide_by(kind: Kind, predicate: u8, request: u32, x: Decision, y: Decision) -> Decision
+    ensures { λ r. ⌜ r ≡ decideBy kind predicate request x y ⌝ }
+{
+    match kind {
+        Kind::Always(v) => v,
+        Kind::DenyIf => if bit_of(request, predicate) {
+            Decision::D
+        } else {
+            Decision::U
+        },
+        Kind::GrantIf => if bit_of(request, predicate) {
+            Decision::G
+        } else {
+            Decision::U
+        },
+        Kind::One(op) => belnap::operators::apply_one(op, x),
+        Kind::Two(op) => belnap::operators::apply_two(op, x, y),
+        Kind::Compare(_) => Decision::U,
+        Kind::Not => Decision::U,
+        Kind::Both => Decision::U,
+    }
+}
+
+// The decisions of the rows below a number, each from those before it. A place not yet filled reads u.
+fn decide_below(t: Table, end: usize, request: u32) -> [Decision; Table::ROWS]
+    requires { ⌜ end ≤ 256 ⌝ }
+    ensures { λ r. ⌜ r ≡ padded U 256 (values (decides request) U (t .rows) end) ⌝ }
+{
+    let mut d = [Decision::U; Table::ROWS];
+    let mut i = 0;
+    while i < end {
+        let e = t.rows[i];
+        let kind = e.kind;
+        let predicate = e.a;
+        let a = entries::wide(e.a);
+        let b = entries::wide(e.b);
+        let x = d[a];
+        let y = d[b];
+        let v = decide_by(kind, predicate, request, x, y);
+        d[i] = v;
+        i += 1;
+    }
+    d
+}
+
+// What row `row` of a table decides at a request, given as its yes mask; a row that no table has room for reads u.
+pub fn decide(t: Table, row: usize, request: u32) -> Decision
+    ensures { λ r. ⌜ r ≡ decisionIn (t .rows) request row ⌝ }
+{
+    if Table::ROWS <= row {
+        return Decision::U;
+    }
+    let d = decide_below(t, row + 1, request);
+    d[row]
+}

@@ -1,0 +1,105 @@
+use mathlib.Core.Path.{_∙_}
+use Rattle.belnap.specs.declared.Decision.the-variants.{U, D, G, C}
+use Rattle.belnap.specs.Operators.{truthMeet, truthJoin, knowledgeMeet, knowledgeJoin, implication, guard, override}
+use Rattle.possible.specs.Sets.{mask, ofMask, over, imageTwo}
+use Rattle.possible.proofs.Words.{in-words}
+use borrow.Author.Needs.{needs}
+use Rattle.possible.proofs.sets.image_two.Statement.{statement}
+use Rattle.possible.proofs.sets.image_two.Tie as tie
+
+returns : tie.Need-returns
+unfolding mask ofMask over imageTwo
+returns c = rw (c .before .enum-told .given .1) (c .digit .ensures ∙ in-words (imageTwo truthMeet) (c .before .before .before .args .s) (c .before .before .before .args .t))
+
+returns-2 : tie.Need-returns-2
+unfolding mask ofMask over imageTwo
+returns-2 c = rw (c .before .enum-told2 .given .1) (c .digit2 .ensures ∙ in-words (imageTwo truthJoin) (c .before .before .before .args .s) (c .before .before .before .args .t))
+
+returns-3 : tie.Need-returns-3
+unfolding mask ofMask over imageTwo
+returns-3 c = rw (c .before .enum-told3 .given .1) (c .digit3 .ensures ∙ in-words (imageTwo knowledgeMeet) (c .before .before .before .args .s) (c .before .before .before .args .t))
+
+returns-4 : tie.Need-returns-4
+unfolding mask ofMask over imageTwo
+returns-4 c = rw (c .before .enum-told4 .given .1) (c .digit4 .ensures ∙ in-words (imageTwo knowledgeJoin) (c .before .before .before .args .s) (c .before .before .before .args .t))
+
+returns-5 : tie.Need-returns-5
+unfolding mask ofMask over imageTwo
+returns-5 c = rw (c .before .enum-told5 .given .1) (c .digit5 .ensures ∙ in-words (imageTwo implication) (c .before .before .before .args .s) (c .before .before .before .args .t))
+
+returns-6 : tie.Need-returns-6
+unfolding mask ofMask over imageTwo
+returns-6 c = rw (c .before .enum-told6 .given .1) (c .digit6 .ensures ∙ in-words (imageTwo guard) (c .before .before .before .args .s) (c .before .before .before .args .t))
+
+returns-7 : tie.Need-returns-7
+unfolding mask ofMask over imageTwo
+returns-7 c = rw (c .before .enum-told7 .given .1) (c .digit7 .ensures ∙ in-words (imageTwo (override U)) (c .before .before .before .args .s) (c .before .before .before .args .t))
+
+returns-8 : tie.Need-returns-8
+unfolding mask ofMask over imageTwo
+returns-8 c = rw (c .before .enum-told8 .given .1) (c .digit8 .ensures ∙ in-words (imageTwo (override D)) (c .before .before .before .args .s) (c .before .before .before .args .t))
+
+returns-9 : tie.Need-returns-9
+unfolding mask ofMask over imageTwo
+returns-9 c = rw (c .before .enum-told9 .given .1) (c .digit9 .ensures ∙ in-words (imageTwo (override G)) (c .before .before .before .args .s) (c .before .before .before .args .t))
+
+returns-10 : tie.Need-returns-10
+unfolding mask ofMask over imageTwo
+returns-10 c = rw (c .before .enum-told10 .given .1) (c .digit10 .ensures ∙ in-words (imageTwo (override C)) (c .before .before .before .args .s) (c .before .before .before .args .t))
+
+pub image-two-spec : {M : Type 1} → statement M
+image-two-spec =
+    tie.close
+    (tie.spec
+    (λ c. search needs)
+    (λ c. search needs)
+    (λ c. search needs)
+    (λ c. search needs)
+    (λ c. search needs)
+    (λ c κs. search needs)
+    (λ c. search needs)
+    (λ c. search needs)
+    (λ c. search needs)
+    (λ c κs. search needs)
+    (λ c. search needs)
+    (λ c. search needs)
+    (λ c. search needs)
+    (λ c κs. search needs)
+    (λ c. search needs)
+    (λ c. search needs)
+    (λ c. search needs)
+    (λ c κs. search needs)
+    (λ c. search needs)
+    (λ c. search needs)
+    (λ c. search needs)
+    (λ c κs. search needs)
+    (λ c. search needs)
+    (λ c. search needs)
+    (λ c. search needs)
+    (λ c κs. search needs)
+    (λ c. search needs)
+    (λ c. search needs)
+    (λ c. search needs)
+    (λ c κs. search needs)
+    (λ c. search needs)
+    (λ c. search needs)
+    (λ c. search needs)
+    (λ c κs. search needs)
+    (λ c. search needs)
+    (λ c. search needs)
+    (λ c. search needs)
+    (λ c κs. search needs)
+    (λ c. search needs)
+    (λ c. search needs)
+    (λ c. search needs)
+    (λ c κs. search needs)
+    returns
+    returns-2
+    returns-3
+    returns-4
+    returns-5
+    returns-6
+    returns-7
+    returns-8
+    returns-9
+    returns-10)

@@ -1,0 +1,3 @@
+// The decisions that remain possible where facts are missing.
+pub mod sets;
+mod tables;

@@ -1,0 +1,74 @@
+// Sets of decisions as masks in which u counts 1, d 2, g 4, c 8. The high bits of a number that is taken for a mask count nothing.
+use crate::tables;
+use belnap::Decision;
+use belnap::operators::OneRow;
+use belnap::operators::TwoRow;
+ghost use mathlib.Core.Path.{_≡_};
+ghost use Prim.Native.Nat.{_*_, _/_, _%_, _^_, _<_};
+ghost use Rattle.belnap.specs.Operators.{one, two};
+ghost use Rattle.possible.specs.Sets.{mask, ofMask, single, either, imageOne, imageTwo};
+
+// The set of one decision alone.
+pub fn only(x: Decision) -> u8
+    ensures { λ r. ⌜ r ≡ mask (single x) ⌝ }
+{
+    match x {
+        Decision::U => 1,
+        Decision::D => 2,
+        Decision::G => 4,
+        Decision::C => 8,
+    }
+}
+
+// The set of u and one decision: a predicate row whose predicate is unknown.
+pub fn perhaps(x: Decision) -> u8
+    ensures { λ r. ⌜ r ≡ mask (either (single Decision.U) (single x)) ⌝ }
+{
+    match x {
+        Decision::U => 1,
+        Decision::D => 3,
+        Decision::G => 5,
+        Decision::C => 9,
+    }
+}
+
+// A digit of a word, from the low end.
+fn digit(word: u64, n: usize) -> u8
+    requires { ⌜ n < 16 ⌝ }
+    ensures { λ r. ⌜ r ≡ word / 2 ^ (4 * n) % 16 ⌝ }
+{
+    ((word >> (4 * n)) % 16) as u8
+}
+
+// Every result of a one-row operator over every choice from a set.
+pub fn image_one(op: OneRow, s: u8) -> u8
+    ensures { λ r. ⌜ r ≡ mask (imageOne (one op) (ofMask s)) ⌝ }
+{
+    let i = (s % 16) as usize;
+    match op {
+        OneRow::Negation => digit(tables::NEGATION, i),
+        OneRow::Conflation => digit(tables::CONFLATION, i),
+        OneRow::ClosedDefault => digit(tables::CLOSED_DEFAULT, i),
+        OneRow::OpenDefault => digit(tables::OPEN_DEFAULT, i),
+    }
+}
+
+// Every result of a two-row operator over every choice from two sets.
+pub fn image_two(op: TwoRow, s: u8, t: u8) -> u8
+    ensures { λ r. ⌜ r ≡ mask (imageTwo (two op) (ofMask s) (ofMask t)) ⌝ }
+{
+    let i = (s % 16) as usize;
+    let j = (t % 16) as usize;
+    match op {
+        TwoRow::TruthMeet => digit(tables::TRUTH_MEET[i], j),
+        TwoRow::TruthJoin => digit(tables::TRUTH_JOIN[i], j),
+        TwoRow::KnowledgeMeet => digit(tables::KNOWLEDGE_MEET[i], j),
+        TwoRow::KnowledgeJoin => digit(tables::KNOWLEDGE_JOIN[i], j),
+        TwoRow::Implication => digit(tables::IMPLICATION[i], j),
+        TwoRow::Guard => digit(tables::GUARD[i], j),
+        TwoRow::OverrideU => digit(tables::OVERRIDE_U[i], j),
+        TwoRow::OverrideD => digit(tables::OVERRIDE_D[i], j),
+        TwoRow::OverrideG => digit(tables::OVERRIDE_G[i], j),
+        TwoRow::OverrideC => digit(tables::OVERRIDE_C[i], j),
+    }
+}

@@ -1,0 +1,48 @@
+use Rattle.table.proofs.Runs.{flat-turn}
+use Rattle.table.specs.Flat.{upTo, flat}
+use Rattle.table.specs.Reading.{padded}
+use native.Mathlib.Omega.{arith}
+use Prim.Native.Nat.{_≤_, _-_}
+use mathlib.Core.Path.{_≡_, refl, sym, ap, _∙_}
+use borrow.Author.Needs.{needs}
+use Rattle.table.proofs.flat.flat_rows.Statement.{statement}
+use Rattle.table.proofs.flat.flat_rows.Tie as tie
+
+abbrev Inv-loop : tie.InvT-loop
+Inv-loop end t run₀ i₀ run i = (i ≤ end) × (run ≡ padded 0 768 (flat (upTo (t .rows) i)))
+
+abbrev μ-loop : tie.MeasureT-loop
+μ-loop end t run₀ i₀ run i = end - i
+
+loop-holds : tie.Need-loop-holds Inv-loop μ-loop
+unfolding upTo flat
+loop-holds c = (omega arith, refl)
+
+loop-again : tie.Need-loop-again Inv-loop μ-loop
+loop-again c =
+    let at = c .before .before .before in
+    (omega arith, flat-turn (at .before .args .t1 .rows) 768 (at .loop .i) (c .byte-of .result) (at .loop .run) (omega arith) (at .loop .inv .1) (c .byte-of .ensures))
+
+returns : tie.Need-returns Inv-loop μ-loop
+returns c = let q : c .before .loop .i ≡ c .before .before .args .end = omega arith in rw q at (c .before .loop .inv .1)
+
+pub flat-rows-spec : {M : Type 1} → statement M
+flat-rows-spec =
+    tie.close
+    (tie.spec
+    Inv-loop
+    μ-loop
+    loop-holds
+    (λ c. search needs)
+    (λ c. search needs)
+    (λ c. search needs)
+    (λ c κs. search needs)
+    (λ c. search needs)
+    (λ c. search needs)
+    (λ c. search needs)
+    (λ c. search needs)
+    (λ c. search needs)
+    (λ c. search needs)
+    (λ c. search needs)
+    loop-again
+    returns)
