@@ -2,12 +2,12 @@
 -- induction over rows, and two kinds of values that go side by side.
 -- Assumes nothing.
 use mathlib.Core.Path.{_≡_, refl, sym, ap, ap₂, _∙_}
-use mathlib.Core.List.{List, [], _∷_, _++_}
+use mathlib.Core.List.{List, [], _∷_, _++_, map, append-assoc}
 use Prim.Native.Nat.{ℕ, zero, suc, _+_, _-_, _≤_, _<_}
 use native.Mathlib.Omega.{arith}
 use native.Mathlib.Numerals.{add-one}
-use lib.ListN.{length, getD, set, length-append, List·getD-append, List·getD-eq-default}
-use lib.Seq.{getD-at}
+use lib.ListN.{length, getD, take, drop, set, length-append, length-map, List·getD-append, List·getD-eq-default, List·getD-map}
+use lib.Seq.{getD-at, take-at, set-at, drop-cons}
 use Rattle.table.specs.declared.entries.Entry.{Entry}
 use Rattle.table.specs.Entries.{blank}
 use Rattle.table.specs.Reading.{padded}
@@ -47,15 +47,15 @@ module _ {A : Type 0} (f : Entry → A → A → A) (z : A) where
   pub before-past : (es : List Entry) (n x : ℕ) → n ≤ x → getD (values f z es n) x z ≡ z
   before-past es n x h = List·getD-eq-default (values f z es n) z (rw (values-length es n) h)
 
-  -- the entries matter only by what stands at each number
-  pub same-values : (es fs : List Entry) → ((i : ℕ) → getD es i blank ≡ getD fs i blank) → (n : ℕ) → values f z es n ≡ values f z fs n
+  -- the values of the first n entries come from those entries alone
+  pub same-values : (es fs : List Entry) (n : ℕ) → ((i : ℕ) → i < n → getD es i blank ≡ getD fs i blank) → values f z es n ≡ values f z fs n
   unfolding values
-  same-values es fs h zero = refl
-  same-values es fs h (suc n) = let ih = same-values es fs h n in rw (ih, h n)
+  same-values es fs zero h = refl
+  same-values es fs (suc n) h = let ih = same-values es fs n (λ i l. h i (omega arith)) in rw (ih, h n (omega arith))
 
-  pub same-value : (es fs : List Entry) → ((i : ℕ) → getD es i blank ≡ getD fs i blank) → (i : ℕ) → valueAt f z es i ≡ valueAt f z fs i
+  pub same-value : (es fs : List Entry) (i : ℕ) → ((j : ℕ) → j ≤ i → getD es j blank ≡ getD fs j blank) → valueAt f z es i ≡ valueAt f z fs i
   unfolding valueAt
-  same-value es fs h i = rw (same-values es fs h i, h i)
+  same-value es fs i h = rw (same-values es fs i (λ j l. h j (omega arith)), h i (omega arith))
 
   -- one turn of a loop that fills an array of n places, where a place not yet filled reads z
   pub turn : (es : List Entry) (n i : ℕ) (d : List A) (v : A) → i < n → d ≡ padded z n (values f z es i) →
@@ -70,14 +70,52 @@ module _ {A : Type 0} (f : Entry → A → A → A) (z : A) where
       (ap (λ (d : List A). getD d (getD es i blank .b) z) q ∙ padded-at z n l (getD es i blank .b)) in
       rw (add-one i, q, w) (ap (λ (k : ℕ). set (padded z n l) k (valueBy f z (getD es i blank) l)) (sym m) ∙ padded-more z n l (valueBy f z (getD es i blank) l) (rw m h))
 
--- two kinds of values side by side: what holds of every pair of results from related operands holds row by row
-module _ {A B : Type 0} (R : A → B → Type 0) (f : Entry → A → A → A) (g : Entry → B → B → B) (z : A) (w : B) (base : R z w)
-    (step : (e : Entry) (x y : A) (u v : B) → R x u → R y v → R (f e x y) (g e u v)) where
-  pub side-by-side : (es : List Entry) (i : ℕ) → R (valueAt f z es i) (valueAt g w es i)
+-- inside a list it does not matter what would stand past its end
+pub getD-any : {A : Type 0} (l : List A) (i : ℕ) (d e : A) → i < length l → getD l i d ≡ getD l i e
+getD-any [] i d e h = absurd (omega arith)
+getD-any (x ∷ l) zero d e h = refl
+getD-any (x ∷ l) (suc i) d e h = getD-any l i d e (omega arith)
+
+-- the same of values kept as numbers in the front of what is lent: what stands at a number, and one turn of the loop
+map-more : {A B : Type 0} (f : A → B) (l : List A) (x : A) → map f (l ++ (x ∷ [])) ≡ map f l ++ (f x ∷ [])
+map-more f [] x = refl
+map-more {B} f (y ∷ l) x = ap (λ (m : List B). f y ∷ m) (map-more f l x)
+
+module _ {A : Type 0} (f : Entry → A → A → A) (z : A) (code : A → ℕ) (es : List Entry) (i : ℕ) (out₀ out : List ℕ)
+    (q : out ≡ map code (values f z es i) ++ drop i out₀) where
+  coded-length : length (map code (values f z es i)) ≡ i
+  coded-length = length-map (values f z es i) code ∙ values-length f z es i
+
+  pub coded-at : (x : ℕ) → getD (take i out) x (code z) ≡ code (getD (values f z es i) x z)
+  coded-at x =
+      ap (λ (l : List ℕ). getD (take i l) x (code z)) q
+      ∙ ap (λ (l : List ℕ). getD l x (code z)) (take-at (map code (values f z es i)) (drop i out₀) i coded-length)
+      ∙ List·getD-map code (values f z es i) x z
+
+  pub coded-get : (x : ℕ) → x < i → getD out x 0 ≡ code (valueAt f z es x)
+  coded-get x h =
+      let l = map code (values f z es i) in
+      let m : x < length l = rw coded-length h in
+      ap (λ (o : List ℕ). getD o x 0) q ∙ List·getD-append l (drop i out₀) 0 x m ∙ getD-any l x 0 (code z) m
+      ∙ List·getD-map code (values f z es i) x z ∙ ap code (before-there f z es i x h)
+
+  pub coded-turn : (v : ℕ) → i < length out₀ → v ≡ code (valueAt f z es i) → set out i v ≡ map code (values f z es (i + 1)) ++ drop (i + 1) out₀
+  unfolding values valueAt
+  coded-turn v h e =
+      let l = map code (values f z es i) in
+      let w = valueBy f z (getD es i blank) (values f z es i) in
+      ap₂ (λ (o : List ℕ) (x : ℕ). set o i x) (q ∙ ap (λ (r : List ℕ). l ++ r) (drop-cons out₀ i 0 h)) e
+      ∙ set-at l (getD out₀ i 0) (drop (suc i) out₀) (code w) i coded-length
+      ∙ rw (add-one i, map-more code (values f z es i) w, append-assoc l (code w ∷ []) (drop (suc i) out₀))
+
+-- two kinds of values side by side: what each row hands on from the rows that it names holds of every row
+module _ {A B : Type 0} (R : A → B → Type 0) (f : Entry → A → A → A) (g : Entry → B → B → B) (z : A) (w : B) (es : List Entry) (base : R z w)
+    (step : (i : ℕ) (x y : A) (u v : B) → R x u → R y v → R (f (getD es i blank) x y) (g (getD es i blank) u v)) where
+  pub side-by-side : (i : ℕ) → R (valueAt f z es i) (valueAt g w es i)
   unfolding valueAt
-  side-by-side es = by-rows (λ i. R (valueAt f z es i) (valueAt g w es i)) (λ i ih.
+  side-by-side = by-rows (λ i. R (valueAt f z es i) (valueAt g w es i)) (λ i ih.
       let at : (x : ℕ) → R (getD (values f z es i) x z) (getD (values g w es i) x w) =
       λ x. by-order x i
       (λ h. rw (before-there f z es i x h, before-there g w es i x h) (ih x h))
       (λ h. rw (before-past f z es i x h, before-past g w es i x h) base) in
-      step (getD es i blank) _ _ _ _ (at (getD es i blank .a)) (at (getD es i blank .b)))
+      step i _ _ _ _ (at (getD es i blank .a)) (at (getD es i blank .b)))

@@ -2,3 +2,6 @@
 pub mod Masks
 pub mod Images
 pub mod Words
+pub mod SetLoop
+pub mod Filling
+pub mod Notebook

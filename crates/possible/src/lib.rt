@@ -1,3 +1,90 @@
-// The decisions that remain possible where facts are missing.
+// Which decisions remain possible for a row where facts are missing.
 pub mod sets;
 mod tables;
+
+use belnap::Decision;
+use table::Table;
+use table::entries;
+use table::flat;
+use table::kinds::Kind;
+ghost use mathlib.Core.Path.{_≡_};
+ghost use mathlib.Core.List.{_++_, map};
+ghost use Prim.Native.Nat.{_*_, _≤_, _<_};
+ghost use lib.ListN.{length, getD, take, drop};
+ghost use Rattle.belnap.specs.declared.Decision.the-variants.{U};
+ghost use Rattle.table.specs.Flat.{entriesIn};
+ghost use Rattle.decide.specs.Rows.{values};
+ghost use Rattle.possible.specs.Sets.{single, mask, ofMask};
+ghost use Rattle.possible.specs.Possible.{factSet, setBy, setOf, possibleIn};
+
+// The set of a predicate row.
+fn fact_set(v: Decision, predicate: u8, known: u32, request: u32) -> u8
+    ensures { λ r. ⌜ r ≡ mask (factSet v predicate known request) ⌝ }
+{
+    if decide::bit_of(known, predicate) {
+        if decide::bit_of(request, predicate) {
+            sets::only(v)
+        } else {
+            sets::only(Decision::U)
+        }
+    } else {
+        sets::perhaps(v)
+    }
+}
+
+// The set of a row where the rows that it names have the sets s and t.
+pub fn set_by(kind: Kind, predicate: u8, known: u32, request: u32, s: u8, t: u8) -> u8
+    ensures { λ r. ⌜ r ≡ mask (setBy kind predicate known request (ofMask s) (ofMask t)) ⌝ }
+{
+    match kind {
+        Kind::Always(v) => sets::only(v),
+        Kind::DenyIf => fact_set(Decision::D, predicate, known, request),
+        Kind::GrantIf => fact_set(Decision::G, predicate, known, request),
+        Kind::One(op) => sets::image_one(op, s),
+        Kind::Two(op) => sets::image_two(op, s, t),
+        Kind::Compare(_) => sets::only(Decision::U),
+        Kind::Not => sets::only(Decision::U),
+        Kind::Both => sets::only(Decision::U),
+    }
+}
+
+// The set at a number below i; any other number reads as always u.
+fn earlier(sets: &[u8], i: usize, n: u8) -> u8
+    requires { ⌜ i ≤ length (now sets) ⌝ }
+    ensures { λ r. ⌜ r ≡ getD (take i (now (sets .entry))) n 1 ⌝ }
+{
+    let at = entries::wide(n);
+    if at < i { sets[at] } else { 1 }
+}
+
+// The sets of the rows below a number, from a run of rows, each from those before it, into the front of what is lent.
+pub fn sets_below(rows: &[u8], end: usize, known: u32, request: u32, sets: &mut [u8])
+    requires { ⌜ (3 * end ≤ length (now rows)) × (end ≤ length (now sets)) ⌝ }
+    ensures { λ r. ⌜ now (sets .exit) ≡ map mask (values (setOf known request) (single U) (entriesIn (now (rows .entry))) end) ++ drop end (now (sets .entry)) ⌝ }
+{
+    let mut i = 0;
+    while i < end {
+        let at = 3 * i;
+        let kind = flat::kind_in(rows[at]);
+        let a = rows[at + 1];
+        let b = rows[at + 2];
+        let s = earlier(sets, i, a);
+        let t = earlier(sets, i, b);
+        let v = set_by(kind, a, known, request, s, t);
+        sets[i] = v;
+        i += 1;
+    }
+}
+
+// The set of row `row` of a table as a mask; a row that no table has room for reads as always u.
+pub fn possible(t: Table, row: usize, known: u32, request: u32) -> u8
+    ensures { λ r. ⌜ r ≡ mask (possibleIn (t .rows) known request row) ⌝ }
+{
+    if Table::ROWS <= row {
+        return sets::only(Decision::U);
+    }
+    let rows = flat::flat_rows(t, row + 1);
+    let mut sets = [0u8; Table::ROWS];
+    sets_below(&rows, row + 1, known, request, &mut sets);
+    sets[row]
+}

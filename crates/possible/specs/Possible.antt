@@ -1,0 +1,41 @@
+-- The decisions that remain possible for a row where facts are missing (01, "Missing facts").
+use Prim.Native.Nat.{ℕ}
+use mathlib.Core.Bool.{Bool, cond}
+use mathlib.Core.List.{List}
+use lib.Dec.{ltb}
+use Rattle.belnap.specs.declared.Decision.{Decision}
+use Rattle.belnap.specs.declared.Decision.the-variants.{U, D, G, C}
+use Rattle.belnap.specs.Operators.{one, two}
+use Rattle.table.specs.declared.kinds.Kind.{Kind}
+use Rattle.table.specs.declared.kinds.Kind.the-variants.{Always, DenyIf, GrantIf, One, Two, Compare, Not, Both}
+use Rattle.table.specs.declared.entries.Entry.{Entry}
+use Rattle.table.specs.Entries.{rowLimit}
+use Rattle.decide.specs.Rows.{valueAt}
+use Rattle.decide.specs.Meaning.{bit}
+use Rattle.possible.specs.Sets.{Set, single, either, imageOne, imageTwo}
+
+-- "A predicate row that is known has its one decision; unknown, it has u and its own."
+unfoldable pub factSet : Decision → ℕ → ℕ → ℕ → Set
+factSet v p known request = cond (bit known p) (single (cond (bit request p) v U)) (either (single U) (single v))
+
+-- "A constant has its one decision." A question is no row: it reads as always u.
+unfoldable pub setBy : Kind → ℕ → ℕ → ℕ → Set → Set → Set
+setBy (Always v) p known request s t = single v
+setBy DenyIf p known request s t = factSet D p known request
+setBy GrantIf p known request s t = factSet G p known request
+setBy (One op) p known request s t = imageOne (one op) s
+setBy (Two op) p known request s t = imageTwo (two op) s t
+setBy (Compare o) p known request s t = single U
+setBy Not p known request s t = single U
+setBy Both p known request s t = single U
+
+abbrev pub setOf : ℕ → ℕ → Entry → Set → Set → Set
+setOf known request e s t = setBy (e .kind) (e .a) known request s t
+
+-- the set of row r, with these predicates known and these of them yes
+abbrev pub possible : List Entry → ℕ → ℕ → ℕ → Set
+possible rows known request r = valueAt (setOf known request) (single U) rows r
+
+-- the same of any number: one that no table has room for reads as always u
+abbrev pub possibleIn : List Entry → ℕ → ℕ → ℕ → Set
+possibleIn rows known request r = cond (ltb r rowLimit) (possible rows known request r) (single U)
