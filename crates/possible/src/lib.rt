@@ -48,13 +48,13 @@ pub fn set_by(kind: Kind, predicate: u8, known: u32, request: u32, s: u8, t: u8)
     }
 }
 
-// The set at a number below i; any other number reads as always u.
-fn earlier(sets: &[u8], i: usize, n: u8) -> u8
-    requires { ⌜ i ≤ length (now sets) ⌝ }
-    ensures { λ r. ⌜ r ≡ getD (take i (now (sets .entry))) n 1 ⌝ }
+// The mask at a number below i; any other number reads as 1, which is {u} of decisions and {true} of truths.
+pub fn earlier(masks: &[u8], i: usize, n: u8) -> u8
+    requires { ⌜ i ≤ length (now masks) ⌝ }
+    ensures { λ r. ⌜ r ≡ getD (take i (now (masks .entry))) n 1 ⌝ }
 {
     let at = entries::wide(n);
-    if at < i { sets[at] } else { 1 }
+    if at < i { masks[at] } else { 1 }
 }
 
 // The sets of the rows below a number, from a run of rows, each from those before it, into the front of what is lent.

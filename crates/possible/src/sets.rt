@@ -32,8 +32,8 @@ pub fn perhaps(x: Decision) -> u8
     }
 }
 
-// A digit of a word, from the low end.
-fn digit(word: u64, n: usize) -> u8
+// A digit of a word in hexadecimal, from the low end.
+pub fn digit(word: u64, n: usize) -> u8
     requires { ⌜ n < 16 ⌝ }
     ensures { λ r. ⌜ r ≡ word / 2 ^ (4 * n) % 16 ⌝ }
 {

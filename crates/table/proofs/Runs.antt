@@ -96,3 +96,12 @@ held-at (k ∷ a ∷ b ∷ l) (suc i) h =
     held-at l i (omega arith)
     ∙ ap (λ (x : ℕ). entryFrom (k ∷ a ∷ b ∷ l) x (suc (suc (suc (3 * i + 1)))) (suc (suc (suc (3 * i + 2))))) p
     ∙ ap₂ (entryFrom (k ∷ a ∷ b ∷ l) (3 * suc i)) q r
+
+-- a run of bytes holds entries whose numbers are bytes
+pub held-small : (l : List ℕ) → ((i : ℕ) → getD l i 0 < 256) → (i : ℕ) → (getD (entriesIn l) i blank .a < 256) × (getD (entriesIn l) i blank .b < 256)
+unfolding entriesIn
+held-small [] h i = (omega arith, omega arith)
+held-small (k ∷ []) h i = (omega arith, omega arith)
+held-small (k ∷ a ∷ []) h i = (omega arith, omega arith)
+held-small (k ∷ a ∷ b ∷ l) h zero = (h 1, h 2)
+held-small (k ∷ a ∷ b ∷ l) h (suc i) = held-small l (λ j. h (suc (suc (suc j)))) i

@@ -1,0 +1,5 @@
+-- Laws of questions and of the walk; below this file, a folder for each function that has a proof of its own.
+pub mod Powers
+pub mod TruthMasks
+pub mod QuestionLoop
+pub mod Replies

@@ -1,0 +1,143 @@
+// A question's set of true and false, from the sets of rows, and what a visit sees of it.
+// A set of truths is a mask in which true counts 1 and false 2.
+use crate::tables;
+use belnap::orders::Order;
+use table::entries;
+use table::flat;
+use table::kinds::Kind;
+ghost use mathlib.Core.Bool.{true};
+ghost use mathlib.Core.Path.{_≡_};
+ghost use mathlib.Core.List.{_++_, map};
+ghost use Prim.Native.Nat.{_+_, _*_, _≤_, _<_, max};
+ghost use lib.ListN.{length, getD, take, drop};
+ghost use Rattle.table.specs.Flat.{entriesIn};
+ghost use Rattle.decide.specs.Rows.{values};
+ghost use Rattle.possible.specs.Sets.{ofMask};
+ghost use Rattle.walk.specs.Questions.{compareSet, notSet, bothSet, truthSetBy, asksSet, onlyTruth, look, topBy, top, maskAt, truthMask, truthsOf};
+
+// Settled true, settled false, or not settled.
+pub enum Look {
+    True,
+    False,
+    Open,
+}
+
+pub fn look_of(t: u8) -> Look
+    ensures { λ r. ⌜ r ≡ look (truthsOf t) ⌝ }
+{
+    let m = t % 4;
+    match m {
+        1 => Look::True,
+        2 => Look::False,
+        _ => Look::Open,
+    }
+}
+
+// Every outcome of a comparison over every choice from two sets of decisions.
+pub fn compare_set(order: Order, s: u8, t: u8) -> u8
+    ensures { λ r. ⌜ r ≡ truthMask (compareSet order (ofMask s) (ofMask t)) ⌝ }
+{
+    let i = (s % 16) as usize;
+    let j = (t % 16) as usize;
+    match order {
+        Order::Truth => possible::sets::digit(tables::TRUTH_ORDER[i], j),
+        Order::Knowledge => possible::sets::digit(tables::KNOWLEDGE_ORDER[i], j),
+    }
+}
+
+// "Not" over a set of truths.
+pub fn not_set(x: u8) -> u8
+    ensures { λ r. ⌜ r ≡ truthMask (notSet (truthsOf x)) ⌝ }
+{
+    let i = (x % 4) as usize;
+    possible::sets::digit(tables::NOT, i)
+}
+
+// "Both" over two sets of truths.
+pub fn both_set(x: u8, y: u8) -> u8
+    ensures { λ r. ⌜ r ≡ truthMask (bothSet (truthsOf x) (truthsOf y)) ⌝ }
+{
+    let i = (x % 4) as usize;
+    let j = (y % 4) as usize;
+    possible::sets::digit(tables::BOTH, 4 * i + j)
+}
+
+// The set of a question where the rows that it names have the sets s and t, and the questions the sets x and y.
+pub fn truth_by(kind: Kind, s: u8, t: u8, x: u8, y: u8) -> u8
+    ensures { λ r. ⌜ r ≡ truthMask (truthSetBy kind (ofMask s) (ofMask t) (truthsOf x) (truthsOf y)) ⌝ }
+{
+    match kind {
+        Kind::Compare(order) => compare_set(order, s, t),
+        Kind::Not => not_set(x),
+        Kind::Both => both_set(x, y),
+        Kind::Always(_) => 1,
+        Kind::DenyIf => 1,
+        Kind::GrantIf => 1,
+        Kind::One(_) => 1,
+        Kind::Two(_) => 1,
+    }
+}
+
+// The sets of the questions below a number, from a run of questions and the sets of the rows below `top`, into the front of what is lent.
+pub fn truths_below(questions: &[u8], end: usize, sets: &[u8], top: usize, truths: &mut [u8])
+    requires { ⌜ (3 * end ≤ length (now questions)) × (top ≤ length (now sets)) × (end ≤ length (now truths)) ⌝ }
+    ensures { λ r. ⌜ now (truths .exit) ≡ map truthMask (values (asksSet (maskAt (now (sets .entry)) top)) (onlyTruth true) (entriesIn (now (questions .entry))) end) ++ drop end (now (truths .entry)) ⌝ }
+{
+    let mut i = 0;
+    while i < end {
+        let at = 3 * i;
+        let kind = flat::kind_in(questions[at]);
+        let a = questions[at + 1];
+        let b = questions[at + 2];
+        let s = possible::earlier(sets, top, a);
+        let t = possible::earlier(sets, top, b);
+        let x = possible::earlier(truths, i, a);
+        let y = possible::earlier(truths, i, b);
+        let v = truth_by(kind, s, t, x, y);
+        truths[i] = v;
+        i += 1;
+    }
+}
+
+// How many rows a question of this kind and these numbers looks at, where the questions that it names look at x and y.
+fn top_by(kind: Kind, a: u8, b: u8, x: u16, y: u16) -> u16
+    ensures { λ r. ⌜ r ≡ topBy kind a b x y ⌝ }
+{
+    match kind {
+        Kind::Compare(_) => larger(a as u16, b as u16) + 1,
+        Kind::Not => x,
+        Kind::Both => larger(x, y),
+        Kind::Always(_) => 0,
+        Kind::DenyIf => 0,
+        Kind::GrantIf => 0,
+        Kind::One(_) => 0,
+        Kind::Two(_) => 0,
+    }
+}
+
+fn larger(x: u16, y: u16) -> u16
+    ensures { λ r. ⌜ r ≡ max x y ⌝ }
+{
+    if x < y { y } else { x }
+}
+
+// How many rows a visit of a question looks at: those up to the highest that it reaches.
+pub fn top_of(questions: &[u8], question: usize) -> usize
+    requires { ⌜ (question < 256) × (3 * question + 2 < length (now questions)) ⌝ }
+    ensures { λ r. ⌜ (r ≡ top (entriesIn (now (questions .entry))) question) × (r ≤ 256) ⌝ }
+{
+    let mut tops = [0u16; 256];
+    let mut i = 0;
+    while i <= question {
+        let at = 3 * i;
+        let kind = flat::kind_in(questions[at]);
+        let a = questions[at + 1];
+        let b = questions[at + 2];
+        let x = tops[entries::wide(a)];
+        let y = tops[entries::wide(b)];
+        let v = top_by(kind, a, b, x, y);
+        tops[i] = v;
+        i += 1;
+    }
+    tops[question] as usize
+}
