@@ -28,13 +28,13 @@ part true b e f g = f refl
 part false b e f g = g e
 
 -- some decision passes a test if one does, and then there is one that does
-some-of : (p : Decision → Bool) (x : Decision) → p x ≡ true → some p ≡ true
+pub some-of : (p : Decision → Bool) (x : Decision) → p x ≡ true → some p ≡ true
 some-of p U e = left (p U || p D) (p G || p C) (left (p U) (p D) e)
 some-of p D e = left (p U || p D) (p G || p C) (right (p U) (p D) e)
 some-of p G e = right (p U || p D) (p G || p C) (left (p G) (p C) e)
 some-of p C e = right (p U || p D) (p G || p C) (right (p G) (p C) e)
 
-which : {P : Type 0} (p : Decision → Bool) → some p ≡ true → ((x : Decision) → p x ≡ true → P) → P
+pub which : {P : Type 0} (p : Decision → Bool) → some p ≡ true → ((x : Decision) → p x ≡ true → P) → P
 which p e k = part (p U || p D) (p G || p C) e (λ e. part (p U) (p D) e (k U) (k D)) (λ e. part (p G) (p C) e (k G) (k C))
 
 -- "its one decision"

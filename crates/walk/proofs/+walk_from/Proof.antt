@@ -31,7 +31,6 @@ abbrev walk-from-below : ℕ → In 4 walk-from-kinds.ps
 walk-from-below t =
     and 4 walk-from-kinds.ps (falls 4 walk-from-kinds.ps _<_ μ-walk-from t) walk-from.Pre
 
--- src/lib.rt:79:9
 walk-from-returns : (t : ℕ) → walk-from-lts.Need-returns (
   visit-reads.Asked,
   visit-reads.Learnt,
@@ -44,85 +43,6 @@ walk-from-returns : (t : ℕ) → walk-from-lts.Need-returns (
 ) (walk-from-at t) walk-from.Post
 walk-from-returns t c = no-budget (sees (entriesIn (c .before .before .before .before .before .args .rows .now)) (entriesIn (c .before .before .before .before .before .args .questions .now)) (c .before .before .before .before .before .args .question)) (c .before .before .before .before .before .args .n) (c .before .before .before .before .before .args .k) (c .before .before .before .before .before .args .facts) (c .before .before .before .before .before .args .budget) (c .if1 .taken)
 
--- src/lib.rt:81:9
-walk-from-visit-requires : (t : ℕ) → walk-from-lts.Need-visit-requires (
-  visit-reads.Asked,
-  visit-reads.Learnt,
-  walk-from-below t,
-  walk-from.Post,
-  plus-reads.Asked,
-  plus-reads.Learnt,
-  with-yes-reads.Asked,
-  with-yes-reads.Learnt,
-) (walk-from-at t) walk-from.Post
-walk-from-visit-requires t c κs = search needs
-
--- src/lib.rt:83:23
-walk-from-enum-told : (t : ℕ) → walk-from-lts.Need-enum-told (
-  visit-reads.Asked,
-  visit-reads.Learnt,
-  walk-from-below t,
-  walk-from.Post,
-  plus-reads.Asked,
-  plus-reads.Learnt,
-  with-yes-reads.Asked,
-  with-yes-reads.Learnt,
-) (walk-from-at t) walk-from.Post
-walk-from-enum-told t c = search needs
-
--- src/lib.rt:84:24
-walk-from-enum-told-2 : (t : ℕ) → walk-from-lts.Need-enum-told-2 (
-  visit-reads.Asked,
-  visit-reads.Learnt,
-  walk-from-below t,
-  walk-from.Post,
-  plus-reads.Asked,
-  plus-reads.Learnt,
-  with-yes-reads.Asked,
-  with-yes-reads.Learnt,
-) (walk-from-at t) walk-from.Post
-walk-from-enum-told-2 t c = search needs
-
--- src/lib.rt:86:16
-walk-from-enum-told-3 : (t : ℕ) → walk-from-lts.Need-enum-told-3 (
-  visit-reads.Asked,
-  visit-reads.Learnt,
-  walk-from-below t,
-  walk-from.Post,
-  plus-reads.Asked,
-  plus-reads.Learnt,
-  with-yes-reads.Asked,
-  with-yes-reads.Learnt,
-) (walk-from-at t) walk-from.Post
-walk-from-enum-told-3 t c = search needs
-
--- src/lib.rt:87:17
-walk-from-same-length : (t : ℕ) → walk-from-lts.Need-same-length (
-  visit-reads.Asked,
-  visit-reads.Learnt,
-  walk-from-below t,
-  walk-from.Post,
-  plus-reads.Asked,
-  plus-reads.Learnt,
-  with-yes-reads.Asked,
-  with-yes-reads.Learnt,
-) (walk-from-at t) walk-from.Post
-walk-from-same-length t c = search needs
-
--- src/lib.rt:87:17
-walk-from-same-length-2 : (t : ℕ) → walk-from-lts.Need-same-length-2 (
-  visit-reads.Asked,
-  visit-reads.Learnt,
-  walk-from-below t,
-  walk-from.Post,
-  plus-reads.Asked,
-  plus-reads.Learnt,
-  with-yes-reads.Asked,
-  with-yes-reads.Learnt,
-) (walk-from-at t) walk-from.Post
-walk-from-same-length-2 t c = search needs
-
--- src/lib.rt:87:17
 walk-from-returns-2 : (t : ℕ) → walk-from-lts.Need-returns-2 (
   visit-reads.Asked,
   visit-reads.Learnt,
@@ -135,33 +55,6 @@ walk-from-returns-2 : (t : ℕ) → walk-from-lts.Need-returns-2 (
 ) (walk-from-at t) walk-from.Post
 walk-from-returns-2 t c = none-left (sees (entriesIn (c .before .before .before .before .before .before .before .before .before .before .before .before .before .before .before .args .rows .now)) (entriesIn (c .before .before .before .before .before .before .before .before .before .before .before .before .before .before .before .args .questions .now)) (c .before .before .before .before .before .before .before .before .before .before .before .before .before .before .before .args .question)) (c .before .before .before .before .before .before .before .before .before .before .before .before .before .before .before .args .n) (c .before .before .before .before .before .before .before .before .before .before .before .before .before .before .before .args .k) (c .before .before .before .before .before .before .before .before .before .before .before .before .before .before .before .args .facts) (c .before .before .before .before .before .before .before .before .before .before .before .before .before .before .before .args .budget) (pos-of-ne-zero (c .before .before .before .before .before .before .before .before .before .before .if1 .left)) (sym (c .before .before .before .before .before .before .before .visit .ensures) ∙ c .before .enum-told3 .given .1) (c .if2 .taken)
 
--- src/lib.rt:97:17
-walk-from-add-walk-from : (t : ℕ) → walk-from-lts.Need-add-walk-from (
-  visit-reads.Asked,
-  visit-reads.Learnt,
-  walk-from-below t,
-  walk-from.Post,
-  plus-reads.Asked,
-  plus-reads.Learnt,
-  with-yes-reads.Asked,
-  with-yes-reads.Learnt,
-) (walk-from-at t) walk-from.Post
-walk-from-add-walk-from t c = search needs
-
--- src/lib.rt:99:17
-walk-from-sub-walk-from : (t : ℕ) → walk-from-lts.Need-sub-walk-from (
-  visit-reads.Asked,
-  visit-reads.Learnt,
-  walk-from-below t,
-  walk-from.Post,
-  plus-reads.Asked,
-  plus-reads.Learnt,
-  with-yes-reads.Asked,
-  with-yes-reads.Learnt,
-) (walk-from-at t) walk-from.Post
-walk-from-sub-walk-from t c = search needs
-
--- src/lib.rt:89:17
 walk-from-walk-from-requires : (t : ℕ) → walk-from-lts.Need-walk-from-requires (
   visit-reads.Asked,
   visit-reads.Learnt,
@@ -185,20 +78,6 @@ walk-from-walk-from-requires t c κs =
       ),
     )
 
--- src/lib.rt:101:30
-walk-from-enum-known-first : (t : ℕ) → walk-from-lts.Need-enum-known-first (
-  visit-reads.Asked,
-  visit-reads.Learnt,
-  walk-from-below t,
-  walk-from.Post,
-  plus-reads.Asked,
-  plus-reads.Learnt,
-  with-yes-reads.Asked,
-  with-yes-reads.Learnt,
-) (walk-from-at t) walk-from.Post
-walk-from-enum-known-first t c = search needs
-
--- src/lib.rt:102:17
 walk-from-plus-requires : (t : ℕ) → walk-from-lts.Need-plus-requires (
   visit-reads.Asked,
   visit-reads.Learnt,
@@ -211,33 +90,6 @@ walk-from-plus-requires : (t : ℕ) → walk-from-lts.Need-plus-requires (
 ) (walk-from-at t) walk-from.Post
 walk-from-plus-requires t c κs = ((pos-of-ne-zero (c .before .before .before .before .before .before .before .before .before .before .before .before .before .before .before .before .before .before .if1 .left)), count-of (c .before .before .before .before .before .walk-from .result) (c .before .before .before .before .before .before .before .before .before .before .before .before .before .before .before .before .before .before .before .before .before .before .before .args .budget - 1) (walkFrom (sees (entriesIn (c .before .before .before .before .before .before .before .before .before .before .before .before .before .before .before .before .before .before .before .before .before .before .before .args .rows .now)) (entriesIn (c .before .before .before .before .before .before .before .before .before .before .before .before .before .before .before .before .before .before .before .before .before .before .before .args .questions .now)) (c .before .before .before .before .before .before .before .before .before .before .before .before .before .before .before .before .before .before .before .before .before .before .before .args .question)) (c .before .before .before .before .before .before .before .before .before .before .before .before .before .before .before .before .before .before .before .before .before .before .before .args .n - (c .before .before .before .before .before .before .before .before .before .before .before .before .before .before .before .before .before .before .before .before .before .before .before .args .k + 1)) (c .before .before .before .before .before .before .before .before .before .before .before .before .before .before .before .before .before .before .before .before .before .before .before .args .k + 1) (c .before .before .before .before .before .before .before .before .before .before .before .before .before .before .before .before .before .before .before .before .before .before .before .args .facts)) (c .before .before .before .before .before .walk-from .ensures))
 
--- src/lib.rt:102:17
-walk-from-same-length-3 : (t : ℕ) → walk-from-lts.Need-same-length-3 (
-  visit-reads.Asked,
-  visit-reads.Learnt,
-  walk-from-below t,
-  walk-from.Post,
-  plus-reads.Asked,
-  plus-reads.Learnt,
-  with-yes-reads.Asked,
-  with-yes-reads.Learnt,
-) (walk-from-at t) walk-from.Post
-walk-from-same-length-3 t c = search needs
-
--- src/lib.rt:102:17
-walk-from-same-length-4 : (t : ℕ) → walk-from-lts.Need-same-length-4 (
-  visit-reads.Asked,
-  visit-reads.Learnt,
-  walk-from-below t,
-  walk-from.Post,
-  plus-reads.Asked,
-  plus-reads.Learnt,
-  with-yes-reads.Asked,
-  with-yes-reads.Learnt,
-) (walk-from-at t) walk-from.Post
-walk-from-same-length-4 t c = search needs
-
--- src/lib.rt:102:17
 walk-from-returns-3 : (t : ℕ) → walk-from-lts.Need-returns-3 (
   visit-reads.Asked,
   visit-reads.Learnt,
@@ -252,7 +104,6 @@ walk-from-returns-3 t c =
     c .plus .ensures ∙ first-ends (sees (entriesIn (c .before .before .before .before .before .before .before .before .before .before .before .before .before .before .before .before .before .before .before .before .before .before .before .before .args .rows .now)) (entriesIn (c .before .before .before .before .before .before .before .before .before .before .before .before .before .before .before .before .before .before .before .before .before .before .before .before .args .questions .now)) (c .before .before .before .before .before .before .before .before .before .before .before .before .before .before .before .before .before .before .before .before .before .before .before .before .args .question)) (c .before .before .before .before .before .before .before .before .before .before .before .before .before .before .before .before .before .before .before .before .before .before .before .before .args .n) (c .before .before .before .before .before .before .before .before .before .before .before .before .before .before .before .before .before .before .before .before .before .before .before .before .args .k) (c .before .before .before .before .before .before .before .before .before .before .before .before .before .before .before .before .before .before .before .before .before .before .before .before .args .facts) (c .before .before .before .before .before .before .before .before .before .before .before .before .before .before .before .before .before .before .before .before .before .before .before .before .args .budget) (lt-of-le-ne (c .before .before .before .before .before .before .before .before .before .before .before .before .before .before .before .before .before .before .before .before .before .before .before .before .pre .1 .1) (c .before .before .before .before .before .before .before .before .before .if2 .left)) (pos-of-ne-zero (c .before .before .before .before .before .before .before .before .before .before .before .before .before .before .before .before .before .before .before .if1 .left)) (sym (c .before .before .before .before .before .before .before .before .before .before .before .before .before .before .before .before .visit .ensures) ∙ c .before .before .before .before .before .before .before .before .before .before .enum-told3 .given .1) (c .before .before .before .before .before .before .walk-from .result) (c .before .before .before .before .before .before .walk-from .ensures)
     (λ a q. ⊎-elim (λ e. let z : _≡_ {A = ℕ} 0 1 = rw q at e in omega arith) (λ e. let z : _≡_ {A = ℕ} 0 2 = rw q at e in omega arith) (c .before .match2 .keys2))
 
--- src/lib.rt:104:17
 walk-from-with-yes-requires : (t : ℕ) → walk-from-lts.Need-with-yes-requires (
   visit-reads.Asked,
   visit-reads.Learnt,
@@ -265,7 +116,6 @@ walk-from-with-yes-requires : (t : ℕ) → walk-from-lts.Need-with-yes-requires
 ) (walk-from-at t) walk-from.Post
 walk-from-with-yes-requires t c κs = (c .before .before .before .before .before .before .before .before .before .before .before .before .before .before .before .before .before .before .before .before .before .before .before .before .before .pre .1 .3, omega (arith, (lt-of-le-ne (c .before .before .before .before .before .before .before .before .before .before .before .before .before .before .before .before .before .before .before .before .before .before .before .before .before .pre .1 .1) (c .before .before .before .before .before .before .before .before .before .before .if2 .left)), c .before .before .before .before .before .before .before .before .before .before .before .before .before .before .before .before .before .before .before .before .before .before .before .before .before .pre .1 .2))
 
--- src/lib.rt:113:17
 walk-from-add-walk-from-2 : (t : ℕ) → walk-from-lts.Need-add-walk-from-2 (
   visit-reads.Asked,
   visit-reads.Learnt,
@@ -278,20 +128,6 @@ walk-from-add-walk-from-2 : (t : ℕ) → walk-from-lts.Need-add-walk-from-2 (
 ) (walk-from-at t) walk-from.Post
 walk-from-add-walk-from-2 t c = record { fits = omega (arith, (lt-of-le-ne (c .before .before .before .before .before .before .before .before .before .before .before .before .before .before .before .before .before .before .before .before .before .before .before .before .before .before .before .before .pre .1 .1) (c .before .before .before .before .before .before .before .before .before .before .before .before .before .if2 .left)), c .before .before .before .before .before .before .before .before .before .before .before .before .before .before .before .before .before .before .before .before .before .before .before .before .before .before .before .before .pre .1 .2) }
 
--- src/lib.rt:115:17
-walk-from-sub-walk-from-2 : (t : ℕ) → walk-from-lts.Need-sub-walk-from-2 (
-  visit-reads.Asked,
-  visit-reads.Learnt,
-  walk-from-below t,
-  walk-from.Post,
-  plus-reads.Asked,
-  plus-reads.Learnt,
-  with-yes-reads.Asked,
-  with-yes-reads.Learnt,
-) (walk-from-at t) walk-from.Post
-walk-from-sub-walk-from-2 t c = search needs
-
--- src/lib.rt:115:17
 walk-from-sub-walk-from-3 : (t : ℕ) → walk-from-lts.Need-sub-walk-from-3 (
   visit-reads.Asked,
   visit-reads.Learnt,
@@ -304,7 +140,6 @@ walk-from-sub-walk-from-3 : (t : ℕ) → walk-from-lts.Need-sub-walk-from-3 (
 ) (walk-from-at t) walk-from.Post
 walk-from-sub-walk-from-3 t c = (held-count (c .before .before .before .before .before .before .before .before .before .before .walk-from .result) (c .before .before .before .before .first .given .0 .0) (c .before .before .before .before .before .before .before .before .before .before .before .before .before .before .before .before .before .before .before .before .before .before .before .before .before .before .before .before .args .budget - 1) (walkFrom (sees (entriesIn (c .before .before .before .before .before .before .before .before .before .before .before .before .before .before .before .before .before .before .before .before .before .before .before .before .before .before .before .before .args .rows .now)) (entriesIn (c .before .before .before .before .before .before .before .before .before .before .before .before .before .before .before .before .before .before .before .before .before .before .before .before .before .before .before .before .args .questions .now)) (c .before .before .before .before .before .before .before .before .before .before .before .before .before .before .before .before .before .before .before .before .before .before .before .before .before .before .before .before .args .question)) (c .before .before .before .before .before .before .before .before .before .before .before .before .before .before .before .before .before .before .before .before .before .before .before .before .before .before .before .before .args .n - (c .before .before .before .before .before .before .before .before .before .before .before .before .before .before .before .before .before .before .before .before .before .before .before .before .before .before .before .before .args .k + 1)) (c .before .before .before .before .before .before .before .before .before .before .before .before .before .before .before .before .before .before .before .before .before .before .before .before .before .before .before .before .args .k + 1) (c .before .before .before .before .before .before .before .before .before .before .before .before .before .before .before .before .before .before .before .before .before .before .before .before .before .before .before .before .args .facts)) (c .before .before .before .before .before .before .before .before .before .before .walk-from .ensures) (c .before .before .before .before .first .given .1))
 
--- src/lib.rt:105:17
 walk-from-walk-from-requires-2 : (t : ℕ) → walk-from-lts.Need-walk-from-requires-2 (
   visit-reads.Asked,
   visit-reads.Learnt,
@@ -329,7 +164,6 @@ walk-from-walk-from-requires-2 t c κs =
       ),
     )
 
--- src/lib.rt:117:26
 walk-from-add-plus : (t : ℕ) → walk-from-lts.Need-add-plus (
   visit-reads.Asked,
   visit-reads.Learnt,
@@ -342,7 +176,6 @@ walk-from-add-plus : (t : ℕ) → walk-from-lts.Need-add-plus (
 ) (walk-from-at t) walk-from.Post
 walk-from-add-plus t c = record { fits = omega (arith, (held-count (c .before .before .before .before .before .before .before .before .before .before .before .before .before .before .before .walk-from .result) (c .before .before .before .before .before .before .before .before .before .first .given .0 .0) (c .before .before .before .before .before .before .before .before .before .before .before .before .before .before .before .before .before .before .before .before .before .before .before .before .before .before .before .before .before .before .before .before .before .args .budget - 1) (walkFrom (sees (entriesIn (c .before .before .before .before .before .before .before .before .before .before .before .before .before .before .before .before .before .before .before .before .before .before .before .before .before .before .before .before .before .before .before .before .before .args .rows .now)) (entriesIn (c .before .before .before .before .before .before .before .before .before .before .before .before .before .before .before .before .before .before .before .before .before .before .before .before .before .before .before .before .before .before .before .before .before .args .questions .now)) (c .before .before .before .before .before .before .before .before .before .before .before .before .before .before .before .before .before .before .before .before .before .before .before .before .before .before .before .before .before .before .before .before .before .args .question)) (c .before .before .before .before .before .before .before .before .before .before .before .before .before .before .before .before .before .before .before .before .before .before .before .before .before .before .before .before .before .before .before .before .before .args .n - (c .before .before .before .before .before .before .before .before .before .before .before .before .before .before .before .before .before .before .before .before .before .before .before .before .before .before .before .before .before .before .before .before .before .args .k + 1)) (c .before .before .before .before .before .before .before .before .before .before .before .before .before .before .before .before .before .before .before .before .before .before .before .before .before .before .before .before .before .before .before .before .before .args .k + 1) (c .before .before .before .before .before .before .before .before .before .before .before .before .before .before .before .before .before .before .before .before .before .before .before .before .before .before .before .before .before .before .before .before .before .args .facts)) (c .before .before .before .before .before .before .before .before .before .before .before .before .before .before .before .walk-from .ensures) (c .before .before .before .before .before .before .before .before .before .first .given .1)), c .before .before .before .before .before .before .before .before .before .before .before .before .before .before .before .before .before .before .before .before .before .before .before .before .before .before .before .before .before .before .before .before .before .fits .budget, (pos-of-ne-zero (c .before .before .before .before .before .before .before .before .before .before .before .before .before .before .before .before .before .before .before .before .before .before .before .before .before .before .before .before .if1 .left))) }
 
--- src/lib.rt:117:13
 walk-from-plus-requires-2 : (t : ℕ) → walk-from-lts.Need-plus-requires-2 (
   visit-reads.Asked,
   visit-reads.Learnt,
@@ -358,33 +191,6 @@ walk-from-plus-requires-2 t c κs =
     let last = count-of (c .before .before .before .before .walk-from2 .result) (c .before .before .before .before .before .before .before .before .before .before .before .before .before .before .before .before .before .before .before .before .before .before .before .before .before .before .before .before .before .before .before .before .before .args .budget - 1 - c .before .before .before .before .before .before .before .before .before .first .given .0 .0) (walkFrom (sees (entriesIn (c .before .before .before .before .before .before .before .before .before .before .before .before .before .before .before .before .before .before .before .before .before .before .before .before .before .before .before .before .before .before .before .before .before .args .rows .now)) (entriesIn (c .before .before .before .before .before .before .before .before .before .before .before .before .before .before .before .before .before .before .before .before .before .before .before .before .before .before .before .before .before .before .before .before .before .args .questions .now)) (c .before .before .before .before .before .before .before .before .before .before .before .before .before .before .before .before .before .before .before .before .before .before .before .before .before .before .before .before .before .before .before .before .before .args .question)) (c .before .before .before .before .before .before .before .before .before .before .before .before .before .before .before .before .before .before .before .before .before .before .before .before .before .before .before .before .before .before .before .before .before .args .n - (c .before .before .before .before .before .before .before .before .before .before .before .before .before .before .before .before .before .before .before .before .before .before .before .before .before .before .before .before .before .before .before .before .before .args .k + 1)) (c .before .before .before .before .before .before .before .before .before .before .before .before .before .before .before .before .before .before .before .before .before .before .before .before .before .before .before .before .before .before .before .before .before .args .k + 1) (c .before .before .before .before .before .before .before .with-yes .result)) (c .before .before .before .before .walk-from2 .ensures) in
     (omega (arith, held, (pos-of-ne-zero (c .before .before .before .before .before .before .before .before .before .before .before .before .before .before .before .before .before .before .before .before .before .before .before .before .before .before .before .before .if1 .left))), omega (arith, last))
 
--- src/lib.rt:63:1
-walk-from-same-length-5 : (t : ℕ) → walk-from-lts.Need-same-length-5 (
-  visit-reads.Asked,
-  visit-reads.Learnt,
-  walk-from-below t,
-  walk-from.Post,
-  plus-reads.Asked,
-  plus-reads.Learnt,
-  with-yes-reads.Asked,
-  with-yes-reads.Learnt,
-) (walk-from-at t) walk-from.Post
-walk-from-same-length-5 t c = search needs
-
--- src/lib.rt:63:1
-walk-from-same-length-6 : (t : ℕ) → walk-from-lts.Need-same-length-6 (
-  visit-reads.Asked,
-  visit-reads.Learnt,
-  walk-from-below t,
-  walk-from.Post,
-  plus-reads.Asked,
-  plus-reads.Learnt,
-  with-yes-reads.Asked,
-  with-yes-reads.Learnt,
-) (walk-from-at t) walk-from.Post
-walk-from-same-length-6 t c = search needs
-
--- src/lib.rt:63:1
 walk-from-returns-4 : (t : ℕ) → walk-from-lts.Need-returns-4 (
   visit-reads.Asked,
   visit-reads.Learnt,
@@ -397,33 +203,6 @@ walk-from-returns-4 : (t : ℕ) → walk-from-lts.Need-returns-4 (
 ) (walk-from-at t) walk-from.Post
 walk-from-returns-4 t c = settled-true (sees (entriesIn (c .before .before .before .before .before .before .before .before .before .before .before .before .before .before .args .rows .now)) (entriesIn (c .before .before .before .before .before .before .before .before .before .before .before .before .before .before .args .questions .now)) (c .before .before .before .before .before .before .before .before .before .before .before .before .before .before .args .question)) (c .before .before .before .before .before .before .before .before .before .before .before .before .before .before .args .n) (c .before .before .before .before .before .before .before .before .before .before .before .before .before .before .args .k) (c .before .before .before .before .before .before .before .before .before .before .before .before .before .before .args .facts) (c .before .before .before .before .before .before .before .before .before .before .before .before .before .before .args .budget) (pos-of-ne-zero (c .before .before .before .before .before .before .before .before .before .if1 .left)) (sym (c .before .before .before .before .before .before .visit .ensures) ∙ c .enum-told .given .1)
 
--- src/lib.rt:63:1
-walk-from-same-length-7 : (t : ℕ) → walk-from-lts.Need-same-length-7 (
-  visit-reads.Asked,
-  visit-reads.Learnt,
-  walk-from-below t,
-  walk-from.Post,
-  plus-reads.Asked,
-  plus-reads.Learnt,
-  with-yes-reads.Asked,
-  with-yes-reads.Learnt,
-) (walk-from-at t) walk-from.Post
-walk-from-same-length-7 t c = search needs
-
--- src/lib.rt:63:1
-walk-from-same-length-8 : (t : ℕ) → walk-from-lts.Need-same-length-8 (
-  visit-reads.Asked,
-  visit-reads.Learnt,
-  walk-from-below t,
-  walk-from.Post,
-  plus-reads.Asked,
-  plus-reads.Learnt,
-  with-yes-reads.Asked,
-  with-yes-reads.Learnt,
-) (walk-from-at t) walk-from.Post
-walk-from-same-length-8 t c = search needs
-
--- src/lib.rt:63:1
 walk-from-returns-5 : (t : ℕ) → walk-from-lts.Need-returns-5 (
   visit-reads.Asked,
   visit-reads.Learnt,
@@ -436,33 +215,6 @@ walk-from-returns-5 : (t : ℕ) → walk-from-lts.Need-returns-5 (
 ) (walk-from-at t) walk-from.Post
 walk-from-returns-5 t c = settled-false (sees (entriesIn (c .before .before .before .before .before .before .before .before .before .before .before .before .before .before .args .rows .now)) (entriesIn (c .before .before .before .before .before .before .before .before .before .before .before .before .before .before .args .questions .now)) (c .before .before .before .before .before .before .before .before .before .before .before .before .before .before .args .question)) (c .before .before .before .before .before .before .before .before .before .before .before .before .before .before .args .n) (c .before .before .before .before .before .before .before .before .before .before .before .before .before .before .args .k) (c .before .before .before .before .before .before .before .before .before .before .before .before .before .before .args .facts) (c .before .before .before .before .before .before .before .before .before .before .before .before .before .before .args .budget) (pos-of-ne-zero (c .before .before .before .before .before .before .before .before .before .if1 .left)) (sym (c .before .before .before .before .before .before .visit .ensures) ∙ c .enum-told2 .given .1)
 
--- src/lib.rt:63:1
-walk-from-same-length-9 : (t : ℕ) → walk-from-lts.Need-same-length-9 (
-  visit-reads.Asked,
-  visit-reads.Learnt,
-  walk-from-below t,
-  walk-from.Post,
-  plus-reads.Asked,
-  plus-reads.Learnt,
-  with-yes-reads.Asked,
-  with-yes-reads.Learnt,
-) (walk-from-at t) walk-from.Post
-walk-from-same-length-9 t c = search needs
-
--- src/lib.rt:63:1
-walk-from-same-length-10 : (t : ℕ) → walk-from-lts.Need-same-length-10 (
-  visit-reads.Asked,
-  visit-reads.Learnt,
-  walk-from-below t,
-  walk-from.Post,
-  plus-reads.Asked,
-  plus-reads.Learnt,
-  with-yes-reads.Asked,
-  with-yes-reads.Learnt,
-) (walk-from-at t) walk-from.Post
-walk-from-same-length-10 t c = search needs
-
--- src/lib.rt:63:1
 walk-from-returns-6 : (t : ℕ) → walk-from-lts.Need-returns-6 (
   visit-reads.Asked,
   visit-reads.Learnt,
@@ -491,34 +243,34 @@ pub +walk-from-spec : {M : Type 1} → statement M
     (walk-from-at t)
     walk-from.Post
     (walk-from-returns t)
-    (walk-from-visit-requires t)
-    (walk-from-enum-told t)
-    (walk-from-enum-told-2 t)
-    (walk-from-enum-told-3 t)
-    (walk-from-same-length t)
-    (walk-from-same-length-2 t)
+    (λ c κs. search needs)
+    (λ c. search needs)
+    (λ c. search needs)
+    (λ c. search needs)
+    (λ c. search needs)
+    (λ c. search needs)
     (walk-from-returns-2 t)
-    (walk-from-add-walk-from t)
-    (walk-from-sub-walk-from t)
+    (λ c. search needs)
+    (λ c. search needs)
     (walk-from-walk-from-requires t)
-    (walk-from-enum-known-first t)
+    (λ c. search needs)
     (walk-from-plus-requires t)
-    (walk-from-same-length-3 t)
-    (walk-from-same-length-4 t)
+    (λ c. search needs)
+    (λ c. search needs)
     (walk-from-returns-3 t)
     (walk-from-with-yes-requires t)
     (walk-from-add-walk-from-2 t)
-    (walk-from-sub-walk-from-2 t)
+    (λ c. search needs)
     (walk-from-sub-walk-from-3 t)
     (walk-from-walk-from-requires-2 t)
     (walk-from-add-plus t)
     (walk-from-plus-requires-2 t)
-    (walk-from-same-length-5 t)
-    (walk-from-same-length-6 t)
+    (λ c. search needs)
+    (λ c. search needs)
     (walk-from-returns-4 t)
-    (walk-from-same-length-7 t)
-    (walk-from-same-length-8 t)
+    (λ c. search needs)
+    (λ c. search needs)
     (walk-from-returns-5 t)
-    (walk-from-same-length-9 t)
-    (walk-from-same-length-10 t)
+    (λ c. search needs)
+    (λ c. search needs)
     (walk-from-returns-6 t)

@@ -6,20 +6,15 @@ use mathlib.Core.Path.{refl, sym, _∙_}
 use borrow.Author.Needs.{needs}
 use Rattle.walk.proofs.questions.look_of.Statement.{statement}
 use Rattle.walk.proofs.questions.look_of.Tie as tie
-use Rattle.walk.proofs.questions.look_of.Reads as reads
-use Rattle.walk.proofs.questions.look_of.Lts as lts
 
--- src/questions.rt:24:1
 returns : tie.Need-returns
 unfolding truthsOf
 returns c = sym (look-at (c .before .args .t) 1 (c .match .keys1))
 
--- src/questions.rt:24:1
 returns-2 : tie.Need-returns-2
 unfolding truthsOf
 returns-2 c = sym (look-at (c .before .args .t) 2 (c .match .keys2))
 
--- src/questions.rt:24:1
 returns-3 : tie.Need-returns-3
 returns-3 c = sym (look-at (c .before .args .t) (c .before .args .t % 4) refl ∙ look-open (c .before .args .t % 4) (omega arith) (c .match .rest .0 .1) (c .match .rest .1))
 
