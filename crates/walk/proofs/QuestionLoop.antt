@@ -131,3 +131,12 @@ module _ (rows questions : List Entry) (run asked : List ℕ) (m o seen j : ℕ)
   pub run-walk : (n : ℕ) → walkFrom (sees (entriesIn run) (entriesIn asked) j) (n - 0) 0 0 ≡ walk rows questions n j
   run-walk n =
       ap₂ (λ (see : ℕ → ℕ → Look) (left : ℕ). walkFrom see left 0 0) (fun-ext (λ k. fun-ext (λ facts. run-sees k facts))) (omega arith)
+
+-- a walk goes by what stands at each number alone
+pub same-walk : (rows fewer questions asked : List Entry) → ((i : ℕ) → getD rows i blank ≡ getD fewer i blank) → ((i : ℕ) → getD questions i blank ≡ getD asked i blank) →
+    (n j : ℕ) → walk rows questions n j ≡ walk fewer asked n j
+same-walk rows fewer questions asked p q n j =
+    ap (λ (see : ℕ → ℕ → Look). walkFrom see n 0 0) (fun-ext (λ k. fun-ext (λ facts.
+    let sets = fun-ext (λ r. same-value (setOf (2 ^ k - 1) facts) (single U) rows fewer r (λ i l. p i)) in
+    ap (λ (f : ℕ → Set). look (valueAt (asksSet f) (onlyTruth true) questions j)) sets
+    ∙ ap look (same-value (asksSet (possible fewer (2 ^ k - 1) facts)) (onlyTruth true) questions asked j (λ i l. q i)))))

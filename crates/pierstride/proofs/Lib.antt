@@ -1,0 +1,3 @@
+-- Laws of the services; below this file, a folder for each function that has a proof of its own.
+pub mod KnownMasks
+pub mod Serving

@@ -1,0 +1,3 @@
+-- What the services answer.
+pub mod Masks
+pub mod Services

@@ -1,0 +1,303 @@
+// The services for the catalogue server: each takes the table's bytes, reads them first, and answers a struct of plain numbers.
+// `refusal` is 01's number, 0 for none, and `place` its place; a field that says nothing in a case is 0.
+use table::Outcome;
+use table::lookup::Place;
+use walk::Reply;
+ghost use mathlib.Core.Path.{_≡_};
+ghost use Rattle.table.specs.Reading.{reading};
+ghost use Rattle.pierstride.specs.Masks.{beyond, knownBelow, badMasks};
+ghost use Rattle.pierstride.specs.Services.{refusalOf, refusedCounts, countsOf, refusedDecided, decidedOf, refusedRemaining, remainingOf, refusedVerdict, repliedOf, verdictOf, partOf, locatedOf};
+
+// A refusal's number and place.
+pub struct Refusal {
+    pub number: u32,
+    pub place: usize,
+}
+
+// How many rows and questions a table has, and n.
+#[repr(C)]
+pub struct Counts {
+    pub place: usize,
+    pub refusal: u32,
+    pub rows: u32,
+    pub questions: u32,
+    pub predicates: u32,
+}
+
+// The code of a row's decision.
+#[repr(C)]
+pub struct Decided {
+    pub place: usize,
+    pub refusal: u32,
+    pub code: u32,
+}
+
+// The mask of the decisions that remain possible for a row.
+#[repr(C)]
+pub struct Remaining {
+    pub place: usize,
+    pub refusal: u32,
+    pub set: u32,
+}
+
+// The reply to a question: 1 holds, 2 fails with the breaking request, 3 unfinished.
+#[repr(C)]
+pub struct Verdict {
+    pub place: usize,
+    pub refusal: u32,
+    pub reply: u32,
+    pub request: u32,
+    pub visits: u32,
+}
+
+// Where a row's own bytes stand in the caller's table.
+#[repr(C)]
+pub struct Located {
+    pub place: usize,
+    pub start: usize,
+    pub length: usize,
+    pub refusal: u32,
+}
+
+fn refusal_of(outcome: Outcome) -> Refusal
+    ensures { λ r. ⌜ r ≡ refusalOf outcome ⌝ }
+{
+    match outcome {
+        Outcome::Read => Refusal {
+            number: 0,
+            place: 0,
+        },
+        Outcome::Refused(number, place) => Refusal {
+            number: number as u32,
+            place,
+        },
+    }
+}
+
+fn no_counts(r: Refusal) -> Counts
+    ensures { λ x. ⌜ x ≡ refusedCounts (r .number) (r .place) ⌝ }
+{
+    Counts {
+        place: r.place,
+        refusal: r.number,
+        rows: 0,
+        questions: 0,
+        predicates: 0,
+    }
+}
+
+fn no_decision(r: Refusal) -> Decided
+    ensures { λ x. ⌜ x ≡ refusedDecided (r .number) (r .place) ⌝ }
+{
+    Decided {
+        place: r.place,
+        refusal: r.number,
+        code: 0,
+    }
+}
+
+fn no_set(r: Refusal) -> Remaining
+    ensures { λ x. ⌜ x ≡ refusedRemaining (r .number) (r .place) ⌝ }
+{
+    Remaining {
+        place: r.place,
+        refusal: r.number,
+        set: 0,
+    }
+}
+
+fn no_verdict(r: Refusal) -> Verdict
+    ensures { λ x. ⌜ x ≡ refusedVerdict (r .number) (r .place) ⌝ }
+{
+    Verdict {
+        place: r.place,
+        refusal: r.number,
+        reply: 0,
+        request: 0,
+        visits: 0,
+    }
+}
+
+// The table's rows, questions and n.
+#[no_mangle]
+pub extern "C" fn pier_read(table: &[u8]) -> Counts
+    ensures { λ r. ⌜ r ≡ countsOf (reading (now (table .entry))) ⌝ }
+{
+    let got = table::read(table);
+    let outcome = got.outcome;
+    let Outcome::Read = outcome else {
+        return no_counts(refusal_of(outcome));
+    };
+    let t = got.table;
+    Counts {
+        place: 0,
+        refusal: 0,
+        rows: t.used as u32,
+        questions: t.asked as u32,
+        predicates: t.predicates as u32,
+    }
+}
+
+// Whether a mask has a bit above 23.
+fn mask_beyond(mask: u32) -> bool
+    ensures { λ r. ⌜ r ≡ beyond mask ⌝ }
+{
+    16777216 <= mask
+}
+
+// What a row decides at a complete request, given as its yes mask.
+#[no_mangle]
+pub extern "C" fn pier_decide(table: &[u8], row: u32, request: u32) -> Decided
+    ensures { λ r. ⌜ r ≡ decidedOf (reading (now (table .entry))) row request ⌝ }
+{
+    let got = table::read(table);
+    let outcome = got.outcome;
+    let Outcome::Read = outcome else {
+        return no_decision(refusal_of(outcome));
+    };
+    let t = got.table;
+    let at = row as usize;
+    if t.used <= at {
+        return no_decision(Refusal {
+            number: 8,
+            place: 0,
+        });
+    }
+    if mask_beyond(request) {
+        return no_decision(Refusal {
+            number: 10,
+            place: 0,
+        });
+    }
+    let v = decide::decide(t, at, request);
+    Decided {
+        place: 0,
+        refusal: 0,
+        code: belnap::code_of(v) as u32,
+    }
+}
+
+// Whether each predicate that is yes is known.
+fn all_known(known: u32, request: u32) -> bool
+    ensures { λ r. ⌜ r ≡ knownBelow 24 known request ⌝ }
+{
+    let mut i = 0u8;
+    while i < 24 {
+        if decide::bit_of(request, i) & !decide::bit_of(known, i) {
+            return false;
+        }
+        i += 1;
+    }
+    true
+}
+
+// Whether 10 refuses the masks of a request with missing facts.
+fn masks_bad(known: u32, request: u32) -> bool
+    ensures { λ r. ⌜ r ≡ badMasks known request ⌝ }
+{
+    (mask_beyond(known) | mask_beyond(request)) | !all_known(known, request)
+}
+
+// Which decisions remain possible for a row, with these predicates known and these of them yes.
+#[no_mangle]
+pub extern "C" fn pier_possible(table: &[u8], row: u32, known: u32, request: u32) -> Remaining
+    ensures { λ r. ⌜ r ≡ remainingOf (reading (now (table .entry))) row known request ⌝ }
+{
+    let got = table::read(table);
+    let outcome = got.outcome;
+    let Outcome::Read = outcome else {
+        return no_set(refusal_of(outcome));
+    };
+    let t = got.table;
+    let at = row as usize;
+    if t.used <= at {
+        return no_set(Refusal {
+            number: 8,
+            place: 0,
+        });
+    }
+    if masks_bad(known, request) {
+        return no_set(Refusal {
+            number: 10,
+            place: 0,
+        });
+    }
+    let set = possible::possible(t, at, known, request);
+    Remaining {
+        place: 0,
+        refusal: 0,
+        set: set as u32,
+    }
+}
+
+// A reply as numbers.
+fn replied(reply: Reply) -> Verdict
+    ensures { λ r. ⌜ r ≡ repliedOf reply ⌝ }
+{
+    match reply {
+        Reply::Holds(visits) => Verdict {
+            place: 0,
+            refusal: 0,
+            reply: 1,
+            request: 0,
+            visits,
+        },
+        Reply::Fails(request, visits) => Verdict {
+            place: 0,
+            refusal: 0,
+            reply: 2,
+            request,
+            visits,
+        },
+        Reply::Unfinished(visits) => Verdict {
+            place: 0,
+            refusal: 0,
+            reply: 3,
+            request: 0,
+            visits,
+        },
+    }
+}
+
+// The verdict on a question, within a budget of visits.
+#[no_mangle]
+pub extern "C" fn pier_verdict(table: &[u8], question: u32, budget: u32) -> Verdict
+    ensures { λ r. ⌜ r ≡ verdictOf (reading (now (table .entry))) question budget ⌝ }
+{
+    let got = table::read(table);
+    let outcome = got.outcome;
+    let Outcome::Read = outcome else {
+        return no_verdict(refusal_of(outcome));
+    };
+    let t = got.table;
+    let at = question as usize;
+    if t.asked <= at {
+        return no_verdict(Refusal {
+            number: 8,
+            place: 0,
+        });
+    }
+    replied(walk::verdict(t, at, budget))
+}
+
+// Where a row's own bytes stand in the table.
+#[no_mangle]
+pub extern "C" fn pier_entry(table: &[u8], row: u32) -> Located
+    ensures { λ r. ⌜ r ≡ locatedOf (reading (now (table .entry))) row ⌝ }
+{
+    let found = table::lookup::find(table, row);
+    match found {
+        Place::At(start, length) => Located {
+            place: 0,
+            start,
+            length,
+            refusal: 0,
+        },
+        Place::Missing(number, place) => Located {
+            place,
+            start: 0,
+            length: 0,
+            refusal: number as u32,
+        },
+    }
+}
