@@ -18,6 +18,9 @@ use Rattle.possible.specs.Possible.{possible}
 use Rattle.walk.specs.declared.Reply.{Reply}
 use Rattle.walk.specs.declared.Reply.the-variants.{Holds, Fails, Unfinished}
 use Rattle.walk.specs.Walk.{walk, replyOf}
+use Rattle.strike.specs.declared.Struck.{Struck}
+use Rattle.strike.specs.declared.Struck.the-variants.{Written, Refused as RefusedStrike}
+use Rattle.pierstride.specs.declared.Closed.{Closed}
 use Rattle.pierstride.specs.declared.Refusal.{Refusal}
 use Rattle.pierstride.specs.declared.Counts.{Counts}
 use Rattle.pierstride.specs.declared.Decided.{Decided}
@@ -84,3 +87,8 @@ partOf (Missing n p) = record { place = p; start = 0; length = 0; refusal = n }
 
 abbrev pub locatedOf : Result → ℕ → Located
 locatedOf x r = partOf (placeOf x r)
+
+-- "The length comes back."
+abbrev pub closedOf : Struck → Closed
+closedOf (Written n) = record { place = 0; length = n; refusal = 0 }
+closedOf (RefusedStrike n p) = record { place = p; length = 0; refusal = n }

@@ -1,12 +1,15 @@
 // The services for the catalogue server: each takes the table's bytes, reads them first, and answers a struct of plain numbers.
 // `refusal` is 01's number, 0 for none, and `place` its place; a field that says nothing in a case is 0.
+use strike::Struck;
 use table::Outcome;
 use table::lookup::Place;
 use walk::Reply;
 ghost use mathlib.Core.Path.{_≡_};
+ghost use lib.ListN.{length};
 ghost use Rattle.table.specs.Reading.{reading};
+ghost use Rattle.strike.specs.Strike.{struckAnswer, struckOutput};
 ghost use Rattle.pierstride.specs.Masks.{beyond, knownBelow, badMasks};
-ghost use Rattle.pierstride.specs.Services.{refusalOf, refusedCounts, countsOf, refusedDecided, decidedOf, refusedRemaining, remainingOf, refusedVerdict, repliedOf, verdictOf, partOf, locatedOf};
+ghost use Rattle.pierstride.specs.Services.{refusalOf, refusedCounts, countsOf, refusedDecided, decidedOf, refusedRemaining, remainingOf, refusedVerdict, repliedOf, verdictOf, partOf, locatedOf, closedOf};
 
 // A refusal's number and place.
 pub struct Refusal {
@@ -55,6 +58,14 @@ pub struct Verdict {
 pub struct Located {
     pub place: usize,
     pub start: usize,
+    pub length: usize,
+    pub refusal: u32,
+}
+
+// How many bytes the table has once a row is struck.
+#[repr(C)]
+pub struct Closed {
+    pub place: usize,
     pub length: usize,
     pub refusal: u32,
 }
@@ -296,6 +307,26 @@ pub extern "C" fn pier_entry(table: &[u8], row: u32) -> Located
         Place::Missing(number, place) => Located {
             place,
             start: 0,
+            length: 0,
+            refusal: number as u32,
+        },
+    }
+}
+
+// The table without a row, over the front of the lent output; a refusal changes no lent byte.
+#[no_mangle]
+pub extern "C" fn pier_strike(table: &[u8], row: u32, out: &mut [u8]) -> Closed
+    ensures { λ r. ⌜ (r ≡ closedOf (struckAnswer (reading (now (table .entry))) row (length (now (out .entry))))) × (now (out .exit) ≡ struckOutput (reading (now (table .entry))) row (now (out .entry))) ⌝ }
+{
+    let struck = strike::strike(table, row, out);
+    match struck {
+        Struck::Written(length) => Closed {
+            place: 0,
+            length,
+            refusal: 0,
+        },
+        Struck::Refused(number, place) => Closed {
+            place,
             length: 0,
             refusal: number as u32,
         },

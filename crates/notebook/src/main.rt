@@ -1,0 +1,170 @@
+// Runs every case of the old desk's notebook (01) that is not marked P, through the services, and prints each with what came back.
+use libc::STDOUT_FILENO;
+
+// Table A; question 2 asks if row 2 is free of conflict.
+const A: [u8; 22] = [
+    0x11,
+    0x00,
+    0x10,
+    0x01,
+    0x33,
+    0x00,
+    0x01,
+    0x01,
+    0x38,
+    0x02,
+    0x03,
+    0x22,
+    0x02,
+    0x40,
+    0x04,
+    0x05,
+    0x40,
+    0x05,
+    0x04,
+    0x43,
+    0x00,
+    0x01,
+];
+
+// The table of the strike cases.
+const S: [u8; 7] = [0x00, 0x02, 0x20, 0x01, 0x40, 0x01, 0x02];
+
+fn text(bytes: &[u8]) {
+    io::write_all(STDOUT_FILENO, bytes);
+}
+
+fn number(n: u64) {
+    io::print_decimal(STDOUT_FILENO, n);
+}
+
+fn refused(refusal: u32, place: usize) {
+    text(b"refused ");
+    number(refusal as u64);
+    text(b" at ");
+    number(place as u64);
+    text(b"\n");
+}
+
+// Reading: how many rows, questions and predicates, or the refusal.
+fn reads(name: &[u8], table: &[u8]) {
+    text(name);
+    text(b": ");
+    let c = pierstride::pier_read(table);
+    if c.refusal != 0 {
+        refused(c.refusal, c.place);
+        return;
+    }
+    text(b"accepted, rows ");
+    number(c.rows as u64);
+    text(b" questions ");
+    number(c.questions as u64);
+    text(b" predicates ");
+    number(c.predicates as u64);
+    text(b"\n");
+}
+
+// The set of a row of table A.
+fn sets(name: &[u8], row: u32, known: u32, request: u32) {
+    text(name);
+    text(b": ");
+    let a = A;
+    let s = pierstride::pier_possible(&a, row, known, request);
+    if s.refusal != 0 {
+        refused(s.refusal, s.place);
+        return;
+    }
+    text(b"set ");
+    number(s.set as u64);
+    text(b"\n");
+}
+
+// The verdict on a question.
+fn asks(name: &[u8], table: &[u8], question: u32, budget: u32) {
+    text(name);
+    text(b", budget ");
+    number(budget as u64);
+    text(b": ");
+    let v = pierstride::pier_verdict(table, question, budget);
+    if v.refusal != 0 {
+        refused(v.refusal, v.place);
+        return;
+    }
+    if v.reply == 1 {
+        text(b"holds");
+    } else if v.reply == 2 {
+        text(b"fails, mask ");
+        number(v.request as u64);
+    } else {
+        text(b"unfinished");
+    }
+    text(b", count ");
+    number(v.visits as u64);
+    text(b"\n");
+}
+
+fn hex(n: u8) {
+    text(b" ");
+    io::print_hex(STDOUT_FILENO, n as u64, 2);
+}
+
+// Striking a row of the strike cases' table.
+fn strikes(row: u32) {
+    text(b"00 02 20 01 40 01 02, strike ");
+    number(row as u64);
+    text(b":");
+    let s = S;
+    let mut out = [0u8; 7];
+    let struck = pierstride::pier_strike(&s, row, &mut out);
+    if struck.refusal != 0 {
+        text(b" ");
+        refused(struck.refusal, struck.place);
+        return;
+    }
+    let written = struck.length;
+    let mut i = 0;
+    while i < 7 {
+        if i < written {
+            hex(out[i]);
+        }
+        i += 1;
+    }
+    text(b"\n");
+}
+
+// 00 and 65 times 40 00 00.
+fn one_question_more() {
+    let mut table = [0u8; 196];
+    let mut i = 0;
+    while i < 65 {
+        table[3 * i + 1] = 0x40;
+        i += 1;
+    }
+    reads(b"00 and 65 times 40 00 00", &table);
+}
+
+fn main() {
+    let a = A;
+    let s = S;
+    let zeros = [0u8; 257];
+    sets(b"A, row 2, predicate 0 known yes", 2, 1, 1);
+    sets(b"A, row 2, both known yes", 2, 3, 3);
+    asks(b"A, question 2", &a, 2, 4);
+    asks(b"A, question 2", &a, 2, 5);
+    reads(b"empty table", &zeros[..0]);
+    reads(b"12", b"\x12");
+    reads(b"11", b"\x11");
+    reads(b"11 17", b"\x11\x17");
+    reads(b"11 18", b"\x11\x18");
+    reads(b"20 00", b"\x20\x00");
+    reads(b"33 00", b"\x33\x00");
+    reads(b"00 40 00 00 00", b"\x00\x40\x00\x00\x00");
+    reads(b"256 bytes of 00", &zeros[..256]);
+    reads(b"257 bytes of 00", &zeros);
+    one_question_more();
+    strikes(0);
+    strikes(1);
+    strikes(3);
+    asks(b"00 02 20 01 40 01 02, question 0", &s, 0, 1000000);
+    asks(b"00 02 20 01 40 01 02, question 0", &s, 0, 0);
+}
