@@ -1,0 +1,120 @@
+//! Times the library against the oracle, which uses the same method in plain Rust.
+//!
+//! Run it with `cargo bench`, `PIERSTRIDE_LIB` naming the directory of the
+//! `libpierstride.a` to time: on x86-64 the library itself, on Arm an archive of
+//! its native object. Times taken under an emulator say nothing about speed.
+
+use std::mem::ManuallyDrop;
+use std::time::{Duration, Instant};
+
+use pierstride_oracle::random::Random;
+use pierstride_oracle::tables::{self, Shape};
+use pierstride_oracle::ROWS;
+
+const SEED: u64 = 1;
+const BATCHES: usize = 5;
+const BATCH: Duration = Duration::from_millis(40);
+
+/// Every table uses this many predicates, and its question takes the whole walk.
+const PREDICATES: u8 = 16;
+const VISITS: u32 = (2 << PREDICATES) - 1;
+
+const YES: u32 = 0b0101_0101_0101_0101;
+const KNOWN: u32 = 0b0000_1111_1111_0000;
+
+fn main() {
+    println!("The library against the same method in plain Rust, {}.", std::env::consts::ARCH);
+    println!(
+        "Each call starts from the table's bytes. Output buffers are not cleared between calls."
+    );
+    println!("A walk makes {VISITS} visits and is given per visit.");
+    println!();
+    println!("rows  bytes  call             library ns      Rust ns  library/Rust");
+    for rows in [16, 64, ROWS] {
+        time_calls(rows, &table(rows));
+    }
+}
+
+/// A table whose last row is the only one that its question asks about. That row
+/// is unknown until the last predicate is, so the walk makes every visit.
+fn table(rows: usize) -> Vec<u8> {
+    let shape = Shape {
+        rows: rows - 1..=rows - 1,
+        questions: 0..=0,
+        predicates: PREDICATES.into()..=PREDICATES.into(),
+        leaves: 30,
+        reach: ROWS,
+    };
+    let last = (rows - 1) as u8;
+    let mut bytes = tables::table(&mut Random::new(SEED), &shape);
+    bytes.extend([0x11, PREDICATES - 1, 0x40, last, last]);
+    bytes
+}
+
+fn time_calls(rows: usize, table: &[u8]) {
+    let row = rows as u32 - 2;
+    let (known, yes) = (KNOWN, KNOWN & YES);
+    let (mut out, mut oracle_out) = (vec![0; table.len()], vec![0; table.len()]);
+    let struck = (0..rows as u32)
+        .find(|&row| pierstride_oracle::strike(table, row, &mut out).is_ok())
+        .expect("a row that no entry names");
+    let report = |call, library, oracle| {
+        println!(
+            "{rows:>4}  {:>5}  {call:<14}  {library:>11.1}  {oracle:>11.1}  {:>12.2}",
+            table.len(),
+            library / oracle
+        );
+    };
+
+    report(
+        "read",
+        time(|| pierstride::read(hide(table))),
+        time(|| {
+            let read = pierstride_oracle::read(hide(table));
+            read.map(|table| (table.rows.len(), table.questions.len(), table.predicates()))
+        }),
+    );
+    report(
+        "decide",
+        time(|| pierstride::decide(hide(table), row, YES)),
+        time(|| pierstride_oracle::decide(hide(table), row, YES)),
+    );
+    report(
+        "possible",
+        time(|| pierstride::possible(hide(table), row, known, yes)),
+        time(|| pierstride_oracle::possible(hide(table), row, known, yes)),
+    );
+    report(
+        "walk, a visit",
+        time(|| pierstride::verdict(hide(table), 0, VISITS)) / f64::from(VISITS),
+        time(|| pierstride_oracle::verdict(hide(table), 0, VISITS)) / f64::from(VISITS),
+    );
+    report(
+        "strike",
+        time(|| pierstride::strike(hide(table), struck, hide(&mut out))),
+        time(|| pierstride_oracle::strike(hide(table), struck, hide(&mut oracle_out))),
+    );
+}
+
+/// The nanoseconds that a call takes, in the best of several batches.
+fn time<T>(mut call: impl FnMut() -> T) -> f64 {
+    let mut batch = |calls: u32| {
+        let start = Instant::now();
+        (0..calls).for_each(|_| drop(hide(call())));
+        start.elapsed()
+    };
+    let mut calls = 1;
+    while batch(calls) < BATCH {
+        calls *= 2;
+    }
+    let best = (0..BATCHES).map(|_| batch(calls)).min().unwrap_or_default();
+    best.as_nanos() as f64 / f64::from(calls)
+}
+
+/// Hides a value from the optimiser, as `std::hint::black_box` does in later
+/// versions of Rust.
+fn hide<T>(value: T) -> T {
+    let value = ManuallyDrop::new(value);
+    // SAFETY: the value is read once, and not dropped where it was.
+    unsafe { std::ptr::read_volatile(&*value) }
+}

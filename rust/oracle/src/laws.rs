@@ -1,0 +1,194 @@
+//! What must be true of any right implementation, found out by brute force.
+//!
+//! The laws are the demands of the specification, stated over answers alone:
+//! every request is tried, so they do not depend on how a walk is made or a set
+//! is formed.
+
+use crate::call::{Answer, Call};
+use crate::random::Random;
+use crate::{read, truths, Decision, Table, Verdict, QUESTIONS, ROWS};
+
+/// Tables that use more predicates have too many requests to try them all.
+const MOST_PREDICATES: u32 = 8;
+
+/// Checks every law on the answers that `answer` gives on one accepted table.
+pub fn check(answer: &mut dyn FnMut(&[u8], Call) -> Answer, random: &mut Random, bytes: &[u8]) {
+    let mut desk = Desk { answer };
+    let tried = Tried::new(&mut desk, bytes);
+    check_questions(&mut desk, &tried, random);
+    check_sets(&mut desk, &tried, random);
+    check_strikes(&mut desk, &tried, random);
+}
+
+/// The implementation under test. Its methods take only what is not refused.
+struct Desk<'a> {
+    answer: &'a mut dyn FnMut(&[u8], Call) -> Answer,
+}
+
+impl Desk<'_> {
+    fn decide(&mut self, bytes: &[u8], row: usize, yes: u32) -> Decision {
+        let row = row as u32;
+        match (self.answer)(bytes, Call::Decide { row, yes }) {
+            Answer::Code(code) => Decision::ALL[code as usize],
+            other => panic!("{other:?} for a decision"),
+        }
+    }
+
+    fn possible(&mut self, bytes: &[u8], row: usize, known: u32, yes: u32) -> u32 {
+        let row = row as u32;
+        match (self.answer)(bytes, Call::Possible { row, known, yes }) {
+            Answer::Set(mask) => mask,
+            other => panic!("{other:?} for a set"),
+        }
+    }
+
+    fn verdict(&mut self, bytes: &[u8], question: usize, budget: u32) -> Verdict {
+        let question = question as u32;
+        match (self.answer)(bytes, Call::Verdict { question, budget }) {
+            Answer::Verdict(verdict) => verdict,
+            other => panic!("{other:?} for a verdict"),
+        }
+    }
+
+    /// The table without row `row`, or nothing if that row is named.
+    fn strike(&mut self, bytes: &[u8], row: usize) -> Option<Vec<u8>> {
+        let (row, room) = (row as u32, bytes.len());
+        match (self.answer)(bytes, Call::Strike { row, room }) {
+            Answer::Struck(struck) => Some(struck),
+            Answer::Refused(refusal) if refusal.number == crate::refusal::ROW_IS_NAMED => None,
+            other => panic!("{other:?} for a strike"),
+        }
+    }
+}
+
+/// A table with the decisions of its rows at every request.
+struct Tried<'a> {
+    bytes: &'a [u8],
+    table: Table,
+    predicates: u32,
+    /// Indexed by the request's yes mask.
+    decided: Vec<[Decision; ROWS]>,
+}
+
+impl Tried<'_> {
+    fn new<'a>(desk: &mut Desk, bytes: &'a [u8]) -> Tried<'a> {
+        let table = read(bytes).expect("an accepted table");
+        let predicates = table.predicates();
+        assert!(predicates <= MOST_PREDICATES, "{predicates} predicates");
+        let mut decided = vec![[Decision::U; ROWS]; 1 << predicates];
+        for (yes, decided) in (0..).zip(&mut decided) {
+            for (row, decision) in decided.iter_mut().take(table.rows.len()).enumerate() {
+                *decision = desk.decide(bytes, row, yes);
+            }
+        }
+        Tried { bytes, table, predicates, decided }
+    }
+
+    fn every_request(&self) -> std::ops::Range<u32> {
+        0..1 << self.predicates
+    }
+
+    /// Every request in the order of the specification: predicate 0 weighs most,
+    /// no before yes.
+    fn in_order(&self) -> impl Iterator<Item = u32> {
+        let unused = u32::BITS - self.predicates;
+        self.every_request().map(move |rank| rank.reverse_bits().checked_shr(unused).unwrap_or(0))
+    }
+
+    /// The predicates that the table may use, as a mask.
+    fn used(&self) -> u32 {
+        (1 << self.predicates) - 1
+    }
+
+    /// What `row` decides; predicates that the table does not use change nothing.
+    fn decision(&self, row: usize, yes: u32) -> Decision {
+        self.decided[(yes & self.used()) as usize][row]
+    }
+
+    /// Every request that has the known ones of `facts`.
+    fn fillings(&self, known: u32, facts: u32) -> impl Iterator<Item = u32> {
+        let fixed = known & self.used();
+        self.every_request().filter(move |request| request & fixed == facts & fixed)
+    }
+}
+
+/// A question holds exactly if it is true at every request, and otherwise fails
+/// at the first request at which it is false; a budget below the count of visits
+/// leaves it unfinished, every other one brings the same verdict.
+fn check_questions(desk: &mut Desk, tried: &Tried, random: &mut Random) {
+    let questions = &tried.table.questions;
+    let asked: Vec<(u32, [bool; QUESTIONS])> = tried
+        .in_order()
+        .map(|yes| (yes, truths(questions, &tried.decided[yes as usize])))
+        .collect();
+    for question in 0..questions.len() {
+        let first_broken = asked.iter().find(|(_, truths)| !truths[question]);
+        let verdict = desk.verdict(tried.bytes, question, u32::MAX);
+        let (found, visits) = match verdict {
+            Verdict::Holds { visits } => (None, visits),
+            Verdict::Fails { request, visits } => (Some(request), visits),
+            Verdict::Unfinished { .. } => panic!("unfinished with the largest budget"),
+        };
+        let expected = first_broken.map(|&(yes, _)| yes);
+        assert_eq!(found, expected, "question {question}");
+        assert!((1..2 << tried.predicates).contains(&visits), "{visits} visits");
+        for budget in [0, visits - 1, visits, visits + 1, random.number()] {
+            let expected = if budget < visits { Verdict::Unfinished { budget } } else { verdict };
+            assert_eq!(desk.verdict(tried.bytes, question, budget), expected);
+        }
+    }
+}
+
+/// A set has the decision of every filling; learning a fact adds no decision;
+/// with nothing unknown only the true decision is left.
+fn check_sets(desk: &mut Desk, tried: &Tried, random: &mut Random) {
+    for row in 0..tried.table.rows.len() {
+        let (facts, mut known) = (random.mask(), random.mask());
+        let mut set = 0b1111;
+        // One more predicate is known at each step, and all at the last.
+        for next in 0..=tried.predicates {
+            let wider = set;
+            set = desk.possible(tried.bytes, row, known, facts & known);
+            assert_eq!(set & !wider, 0, "row {row}: a fact added a decision");
+            for filling in tried.fillings(known, facts) {
+                let decision = tried.decision(row, filling);
+                assert_ne!(set & 1 << decision.code(), 0, "row {row}: {decision:?} is missing");
+            }
+            known |= 1 << next;
+        }
+        assert_eq!(set, 1 << tried.decision(row, facts).code());
+    }
+}
+
+/// Once a row is struck, every other row decides as before under its new number,
+/// and every question has the verdict it had.
+fn check_strikes(desk: &mut Desk, tried: &Tried, random: &mut Random) {
+    for struck in 0..tried.table.rows.len() {
+        if let Some(bytes) = desk.strike(tried.bytes, struck) {
+            check_struck_rows(desk, tried, struck, &bytes, random);
+            for question in 0..tried.table.questions.len() {
+                let before = desk.verdict(tried.bytes, question, u32::MAX);
+                assert_eq!(desk.verdict(&bytes, question, u32::MAX), before);
+            }
+        }
+    }
+}
+
+fn check_struck_rows(
+    desk: &mut Desk,
+    tried: &Tried,
+    struck: usize,
+    bytes: &[u8],
+    random: &mut Random,
+) {
+    for row in (0..tried.table.rows.len()).filter(|&row| row != struck) {
+        let new = row - usize::from(row > struck);
+        for yes in tried.every_request() {
+            assert_eq!(desk.decide(bytes, new, yes), tried.decision(row, yes));
+        }
+        let known = random.mask();
+        let yes = random.mask() & known;
+        let before = desk.possible(tried.bytes, row, known, yes);
+        assert_eq!(desk.possible(bytes, new, known, yes), before);
+    }
+}

@@ -1,0 +1,79 @@
+//! Taking one entry of a table, and striking a row from it.
+
+use std::ops::Range;
+
+use crate::refusal::{Refusal, OUTPUT_TOO_SHORT, ROW_IS_NAMED};
+use crate::table::{read, Kind};
+
+/// Where the bytes of row `row` lie in the table.
+pub fn entry(bytes: &[u8], row: u32) -> Result<Range<usize>, Refusal> {
+    let row = read(bytes)?.find_row(row)?;
+    Ok(place_of(bytes, row))
+}
+
+/// Writes the table without row `row` to the front of `out` and answers how
+/// many bytes that took.
+pub fn strike(bytes: &[u8], row: u32, out: &mut [u8]) -> Result<usize, Refusal> {
+    let row = read(bytes)?.find_row(row)?;
+    if entries(bytes).any(|entry| entry.names(row)) {
+        return Err(Refusal::of_request(ROW_IS_NAMED));
+    }
+    let need = bytes.len() - place_of(bytes, row).len();
+    if out.len() < need {
+        return Err(Refusal::of_request(OUTPUT_TOO_SHORT));
+    }
+    let mut end = 0;
+    for (number, entry) in entries(bytes).enumerate() {
+        if number != row {
+            end += entry.write_without(row, &mut out[end..]);
+        }
+    }
+    Ok(end)
+}
+
+/// An entry of a table that has been read without a refusal.
+#[derive(Clone, Copy)]
+struct Entry<'a> {
+    kind: Kind,
+    bytes: &'a [u8],
+}
+
+impl Entry<'_> {
+    fn names(self, row: usize) -> bool {
+        let body = &self.bytes[1..];
+        self.kind.names_rows() && body.iter().any(|&number| usize::from(number) == row)
+    }
+
+    /// Writes the entry to the front of `out`, each row number above `struck`
+    /// lowered by one, and answers its length.
+    fn write_without(self, struck: usize, out: &mut [u8]) -> usize {
+        let out = &mut out[..self.bytes.len()];
+        out.copy_from_slice(self.bytes);
+        if self.kind.names_rows() {
+            for number in &mut out[1..] {
+                *number -= u8::from(usize::from(*number) > struck);
+            }
+        }
+        out.len()
+    }
+}
+
+/// The entries of a table that has been read without a refusal. Rows come
+/// before questions, so row r is also entry r.
+fn entries(bytes: &[u8]) -> impl Iterator<Item = Entry<'_>> {
+    let mut rest = bytes;
+    std::iter::from_fn(move || {
+        let kind = Kind::of(*rest.first()?)?;
+        let (bytes, after) = rest.split_at(1 + kind.body_length());
+        rest = after;
+        Some(Entry { kind, bytes })
+    })
+}
+
+/// Where row `row`, which is there, lies.
+fn place_of(bytes: &[u8], row: usize) -> Range<usize> {
+    let mut lengths = entries(bytes).map(|entry| entry.bytes.len());
+    let start = lengths.by_ref().take(row).sum();
+    let length = lengths.next().unwrap_or(0);
+    start..start + length
+}

@@ -1,0 +1,202 @@
+//! The table: its kinds of entry, its limits, and reading it from bytes.
+
+use crate::decision::{Binary, Decision, Order, Unary};
+use crate::refusal::{self, Refusal};
+
+/// The most predicates a table may use: they are numbered 0 to 23.
+pub const PREDICATES: usize = 24;
+/// The most rows a table may have.
+pub const ROWS: usize = 256;
+/// The most questions a table may have.
+pub const QUESTIONS: usize = 64;
+
+/// What the first byte of an entry says about it.
+#[derive(Clone, Copy, Debug)]
+pub enum Kind {
+    Always(Decision),
+    When(Decision),
+    Unary(Unary),
+    Binary(Binary),
+    Compare(Order),
+    Not,
+    Both,
+}
+
+impl Kind {
+    /// The kind that `byte` stands for, if it is listed.
+    pub fn of(byte: u8) -> Option<Kind> {
+        Some(match byte {
+            0x00 => Kind::Always(Decision::U),
+            0x01 => Kind::Always(Decision::D),
+            0x02 => Kind::Always(Decision::G),
+            0x03 => Kind::Always(Decision::C),
+            0x10 => Kind::When(Decision::D),
+            0x11 => Kind::When(Decision::G),
+            0x20 => Kind::Unary(Unary::Negation),
+            0x21 => Kind::Unary(Unary::Conflation),
+            0x22 => Kind::Unary(Unary::ClosedDefault),
+            0x23 => Kind::Unary(Unary::OpenDefault),
+            0x30 => Kind::Binary(Binary::TruthMeet),
+            0x31 => Kind::Binary(Binary::TruthJoin),
+            0x32 => Kind::Binary(Binary::KnowledgeMeet),
+            0x33 => Kind::Binary(Binary::KnowledgeJoin),
+            0x34 => Kind::Binary(Binary::Implication),
+            0x35 => Kind::Binary(Binary::Guard),
+            0x38 => Kind::Binary(Binary::Override(Decision::U)),
+            0x39 => Kind::Binary(Binary::Override(Decision::D)),
+            0x3A => Kind::Binary(Binary::Override(Decision::G)),
+            0x3B => Kind::Binary(Binary::Override(Decision::C)),
+            0x40 => Kind::Compare(Order::Truth),
+            0x41 => Kind::Compare(Order::Knowledge),
+            0x42 => Kind::Not,
+            0x43 => Kind::Both,
+            _ => return None,
+        })
+    }
+
+    /// How many bytes follow the kind byte.
+    pub fn body_length(self) -> usize {
+        match self {
+            Kind::Always(_) => 0,
+            Kind::When(_) | Kind::Unary(_) | Kind::Not => 1,
+            Kind::Binary(_) | Kind::Compare(_) | Kind::Both => 2,
+        }
+    }
+
+    /// Is every byte of the body the number of a row?
+    pub fn names_rows(self) -> bool {
+        matches!(self, Kind::Unary(_) | Kind::Binary(_) | Kind::Compare(_))
+    }
+
+    fn is_question(self) -> bool {
+        matches!(self, Kind::Compare(_) | Kind::Not | Kind::Both)
+    }
+}
+
+/// A row as read; operands are numbers of earlier rows.
+#[derive(Clone, Copy, Debug)]
+pub enum Row {
+    Always(Decision),
+    When(u8, Decision),
+    Unary(Unary, u8),
+    Binary(Binary, u8, u8),
+}
+
+/// A question as read; `Compare` names rows, the others earlier questions.
+#[derive(Clone, Copy, Debug)]
+pub enum Question {
+    Compare(Order, u8, u8),
+    Not(u8),
+    Both(u8, u8),
+}
+
+/// A table as read: what it says, without where its bytes lay.
+#[derive(Clone, Debug)]
+pub struct Table {
+    pub rows: Vec<Row>,
+    pub questions: Vec<Question>,
+}
+
+impl Table {
+    fn empty() -> Table {
+        Table { rows: Vec::with_capacity(ROWS), questions: Vec::with_capacity(QUESTIONS) }
+    }
+
+    /// n: one more than the highest predicate that any row uses, or 0.
+    pub fn predicates(&self) -> u32 {
+        let used = self.rows.iter().filter_map(|row| match *row {
+            Row::When(predicate, _) => Some(u32::from(predicate) + 1),
+            _ => None,
+        });
+        used.max().unwrap_or(0)
+    }
+
+    /// Refuses with 8 unless there is a row `number`.
+    pub fn find_row(&self, number: u32) -> Result<usize, Refusal> {
+        find(number, self.rows.len())
+    }
+
+    /// Refuses with 8 unless there is a question `number`.
+    pub fn find_question(&self, number: u32) -> Result<usize, Refusal> {
+        find(number, self.questions.len())
+    }
+
+    /// Reads the entry at the front of `rest` and answers its length, or the
+    /// number of its refusal.
+    fn read_entry(&mut self, rest: &[u8]) -> Result<usize, u32> {
+        let kind = Kind::of(rest[0]).ok_or(refusal::KIND_NOT_LISTED)?;
+        self.check_room_for(kind)?;
+        let length = 1 + kind.body_length();
+        let body = rest.get(1..length).ok_or(refusal::BODY_CUT_SHORT)?;
+        self.add(kind, body)?;
+        Ok(length)
+    }
+
+    fn check_room_for(&self, kind: Kind) -> Result<(), u32> {
+        if kind.is_question() {
+            if self.questions.len() == QUESTIONS {
+                return Err(refusal::TOO_MANY_QUESTIONS);
+            }
+        } else if !self.questions.is_empty() {
+            return Err(refusal::ROW_AFTER_QUESTION);
+        } else if self.rows.len() == ROWS {
+            return Err(refusal::TOO_MANY_ROWS);
+        }
+        Ok(())
+    }
+
+    /// Adds the entry of this kind and body, of the kind's length.
+    fn add(&mut self, kind: Kind, body: &[u8]) -> Result<(), u32> {
+        // A row may name the rows before it, a comparison every row: as no row
+        // follows a question, both are the rows read so far.
+        let (rows, questions) = (self.rows.len(), self.questions.len());
+        let row = |at: usize| nameable(body[at], rows);
+        let question = |at: usize| nameable(body[at], questions);
+        match kind {
+            Kind::Always(decision) => self.rows.push(Row::Always(decision)),
+            Kind::When(decision) => self.rows.push(Row::When(predicate(body[0])?, decision)),
+            Kind::Unary(operator) => self.rows.push(Row::Unary(operator, row(0)?)),
+            Kind::Binary(operator) => self.rows.push(Row::Binary(operator, row(0)?, row(1)?)),
+            Kind::Compare(order) => self.questions.push(Question::Compare(order, row(0)?, row(1)?)),
+            Kind::Not => self.questions.push(Question::Not(question(0)?)),
+            Kind::Both => self.questions.push(Question::Both(question(0)?, question(1)?)),
+        }
+        Ok(())
+    }
+}
+
+fn find(number: u32, count: usize) -> Result<usize, Refusal> {
+    let number = number as usize;
+    if number < count {
+        Ok(number)
+    } else {
+        Err(Refusal::of_request(refusal::NOT_THERE))
+    }
+}
+
+fn predicate(number: u8) -> Result<u8, u32> {
+    if usize::from(number) < PREDICATES {
+        Ok(number)
+    } else {
+        Err(refusal::PREDICATE_TOO_HIGH)
+    }
+}
+
+/// `number` itself, if it is below `count`.
+fn nameable(number: u8, count: usize) -> Result<u8, u32> {
+    if usize::from(number) < count {
+        Ok(number)
+    } else {
+        Err(refusal::MAY_NOT_BE_NAMED)
+    }
+}
+
+/// Reads a whole table, or refuses with one of 1 to 7 at the first bad entry.
+pub fn read(bytes: &[u8]) -> Result<Table, Refusal> {
+    let mut table = Table::empty();
+    let mut place = 0;
+    while place < bytes.len() {
+        place += table.read_entry(&bytes[place..]).map_err(|number| Refusal { number, place })?;
+    }
+    Ok(table)
+}

@@ -1,0 +1,64 @@
+//! The oracle alone: the notebook's cases, the laws, and the generators.
+
+use pierstride_oracle::call::{answer, Answer, Call};
+use pierstride_oracle::random::Random;
+use pierstride_oracle::{crafted, laws, limits, notebook, read, tables, Verdict};
+
+#[test]
+fn answers_the_notebook() {
+    notebook::check(answer);
+}
+
+#[test]
+fn keeps_the_laws() {
+    let mut random = Random::new(1);
+    for _ in 0..200 {
+        let table = tables::table(&mut random, &tables::SMALL);
+        laws::check(&mut answer, &mut random, &table);
+    }
+}
+
+#[test]
+fn walks_parities_in_full() {
+    for predicates in 0..=12 {
+        for question in 0..2 {
+            let call = Call::Verdict { question, budget: u32::MAX };
+            let visits = (2 << predicates) - 1;
+            let expected = Answer::Verdict(Verdict::Holds { visits });
+            assert_eq!(answer(&crafted::parity(predicates), call), expected);
+        }
+    }
+}
+
+#[test]
+fn accepts_random_tables_of_every_shape() {
+    let mut random = Random::new(2);
+    for shape in &tables::SHAPES {
+        for _ in 0..100 {
+            let bytes = tables::table(&mut random, shape);
+            let table = read(&bytes).expect("a table of a shape");
+            assert!(shape.rows.contains(&table.rows.len()));
+        }
+    }
+}
+
+/// The longest table has 959 bytes: its first row can name no row.
+#[test]
+fn reads_the_longest_table() {
+    let accepted = |table: &Vec<u8>| read(table).is_ok();
+    let limits = limits::tables();
+    let longest = limits.iter().filter(|table| accepted(table)).map(Vec::len).max();
+    assert_eq!(longest, Some(959));
+}
+
+#[test]
+fn makes_rows_of_every_set() {
+    let (table, numbers) = crafted::rows_of_every_set();
+    for (mask, row) in (1..16).zip(numbers) {
+        let call = Call::Possible { row: row.into(), known: 0, yes: 0 };
+        assert_eq!(answer(&table, call), Answer::Set(mask));
+    }
+    for table in crafted::operators_on_every_set() {
+        read(&table).expect("a table of operators");
+    }
+}

@@ -1,0 +1,275 @@
+//! Rule tables over four decisions: grant, deny, conflict and unspecified.
+//!
+//! A table is a byte string: a run of rows, then a run of questions about them.
+//! Each function takes the whole table and reads it first; nothing is kept
+//! between calls, and any thread may call. Every byte string and every number
+//! brings an answer or a [`Refusal`], so nothing need be checked beforehand.
+//!
+//! The functions call the static library `libpierstride.a`, which the build
+//! looks for in the directory that the environment variable `PIERSTRIDE_LIB`
+//! names. They do not panic.
+//!
+//! ```
+//! use pierstride::{decide, possible, verdict, Decision, Verdict};
+//!
+//! // Row 0 grants if predicate 0; row 1 always denies; row 2: row 0 implies row 1.
+//! // Question 0: is row 2 at or below row 1 in the truth order?
+//! let table = [0x11, 0x00, 0x01, 0x34, 0x00, 0x01, 0x40, 0x02, 0x01];
+//!
+//! assert_eq!(decide(&table, 2, 0b1), Ok(Decision::Deny));
+//!
+//! let set = possible(&table, 2, 0, 0)?;
+//! assert!(set.contains(Decision::Grant) && set.contains(Decision::Deny));
+//! assert!(!set.contains(Decision::Conflict));
+//!
+//! let fails = Verdict::Fails { request: 0, visits: 2 };
+//! assert_eq!(verdict(&table, 0, u32::MAX), Ok(fails));
+//! # Ok::<(), pierstride::Refusal>(())
+//! ```
+
+pub mod raw;
+
+use std::fmt;
+
+/// Why a call was not answered.
+///
+/// Refusals 1 to 7 speak of the first bad entry of the table and give the place
+/// of its kind byte; 8 to 11 speak of what was asked, and their place is 0.
+///
+/// | Number | Given when |
+/// |---|---|
+/// | 1 | the kind is not listed |
+/// | 2 | the body is cut short |
+/// | 3 | a predicate is above 23 |
+/// | 4 | a number may not be named there |
+/// | 5 | a row comes after a question |
+/// | 6 | there is a 257th row |
+/// | 7 | there is a 65th question |
+/// | 8 | the row or question asked for is not there |
+/// | 9 | the row to strike is named by a row or question |
+/// | 10 | a mask has a bit above 23, or a yes that is not known |
+/// | 11 | the output is shorter than the bytes to write |
+#[derive(Clone, Copy, Debug, PartialEq, Eq)]
+pub struct Refusal {
+    /// The number of the refusal, 1 to 11.
+    pub number: u32,
+    /// The place in the table of the kind byte that it speaks of, or 0.
+    pub place: usize,
+}
+
+impl fmt::Display for Refusal {
+    fn fmt(&self, f: &mut fmt::Formatter) -> fmt::Result {
+        let reason = match self.number {
+            1 => "the kind is not listed",
+            2 => "the body is cut short",
+            3 => "a predicate is above 23",
+            4 => "a number may not be named there",
+            5 => "a row comes after a question",
+            6 => "there is a 257th row",
+            7 => "there is a 65th question",
+            8 => "the row or question asked for is not there",
+            9 => "the row to strike is named by a row or question",
+            10 => "a mask has a bit above 23, or a yes that is not known",
+            11 => "the output is shorter than the bytes to write",
+            _ => "unknown reason",
+        };
+        write!(f, "refused {} at {}: {reason}", self.number, self.place)
+    }
+}
+
+impl std::error::Error for Refusal {}
+
+/// What a table consists of.
+#[derive(Clone, Copy, Debug, PartialEq, Eq)]
+pub struct Counts {
+    /// The number of rows.
+    pub rows: u32,
+    /// The number of questions.
+    pub questions: u32,
+    /// One more than the highest predicate that any row uses, or 0.
+    pub predicates: u32,
+}
+
+/// What a row decides at a request.
+#[derive(Clone, Copy, Debug, PartialEq, Eq)]
+#[repr(u32)]
+pub enum Decision {
+    /// Neither grants nor denies (code 0).
+    Unspecified = 0,
+    /// Only denies (code 1).
+    Deny = 1,
+    /// Only grants (code 2).
+    Grant = 2,
+    /// Grants and denies (code 3).
+    Conflict = 3,
+}
+
+impl Decision {
+    fn from_code(code: u32) -> Decision {
+        match code {
+            0 => Decision::Unspecified,
+            1 => Decision::Deny,
+            2 => Decision::Grant,
+            _ => Decision::Conflict,
+        }
+    }
+
+    /// The decision's code, 0 to 3.
+    pub fn code(self) -> u32 {
+        self as u32
+    }
+}
+
+/// A set of decisions.
+#[derive(Clone, Copy, Debug, PartialEq, Eq)]
+pub struct DecisionSet(u32);
+
+impl DecisionSet {
+    /// The set as a mask: unspecified counts 1, deny 2, grant 4, conflict 8.
+    pub fn mask(self) -> u32 {
+        self.0
+    }
+
+    /// Is `decision` in the set?
+    pub fn contains(self, decision: Decision) -> bool {
+        self.0 >> decision.code() & 1 == 1
+    }
+}
+
+/// The reply to a question.
+#[derive(Clone, Copy, Debug, PartialEq, Eq)]
+pub enum Verdict {
+    /// The question is true at every request.
+    Holds {
+        /// How many visits the walk made.
+        visits: u32,
+    },
+    /// The question is false at some request.
+    Fails {
+        /// The first request at which it is false, as a yes mask. In the order
+        /// of requests predicate 0 weighs most, and no comes before yes.
+        request: u32,
+        /// How many visits the walk made.
+        visits: u32,
+    },
+    /// The whole walk makes more visits than the budget.
+    Unfinished {
+        /// The budget that was given.
+        budget: u32,
+    },
+}
+
+/// Turns the refusal fields of a reply into a result.
+fn accepted(number: u32, place: usize) -> Result<(), Refusal> {
+    match number {
+        0 => Ok(()),
+        _ => Err(Refusal { number, place }),
+    }
+}
+
+/// Reads a table and answers how many rows, questions and predicates it has.
+///
+/// # Errors
+///
+/// Refusals 1 to 7, for the first bad entry of the table.
+pub fn read(table: &[u8]) -> Result<Counts, Refusal> {
+    // SAFETY: the pointer and the length are those of a slice.
+    let reply = unsafe { raw::pier_read(table.as_ptr(), table.len()) };
+    accepted(reply.refusal, reply.place)?;
+    Ok(Counts { rows: reply.rows, questions: reply.questions, predicates: reply.predicates })
+}
+
+/// Answers what row `row` decides at the request whose yes mask is `yes`, every
+/// predicate being known; predicate i is bit i.
+///
+/// # Errors
+///
+/// In this order: refusals 1 to 7, for the first bad entry of the table; 8, if
+/// there is no such row; 10, if `yes` has a bit above 23.
+pub fn decide(table: &[u8], row: u32, yes: u32) -> Result<Decision, Refusal> {
+    // SAFETY: the pointer and the length are those of a slice.
+    let reply = unsafe { raw::pier_decide(table.as_ptr(), table.len(), row, yes) };
+    accepted(reply.refusal, reply.place)?;
+    Ok(Decision::from_code(reply.code))
+}
+
+/// Answers which decisions of row `row` remain possible if only the predicates
+/// of the mask `known` are known, those of `yes` being yes and the others no.
+///
+/// The set has the decision under every way of filling in the unknown facts.
+/// Learning a fact adds no decision to it, and with nothing unknown it has only
+/// what [`decide`] answers. Operands are chosen independently, so it may also
+/// have decisions that no filling brings.
+///
+/// # Errors
+///
+/// In this order: refusals 1 to 7, for the first bad entry of the table; 8, if
+/// there is no such row; 10, if a mask has a bit above 23 or `yes` has a bit
+/// that `known` has not.
+pub fn possible(table: &[u8], row: u32, known: u32, yes: u32) -> Result<DecisionSet, Refusal> {
+    // SAFETY: the pointer and the length are those of a slice.
+    let reply = unsafe { raw::pier_possible(table.as_ptr(), table.len(), row, known, yes) };
+    accepted(reply.refusal, reply.place)?;
+    Ok(DecisionSet(reply.set))
+}
+
+/// Answers whether question `question` is true at every request and, if not,
+/// which request is the first at which it is false.
+///
+/// The walk that finds this out may make `budget` visits; if it needs more, the
+/// reply is [`Verdict::Unfinished`]. For n predicates 2^(n+1) - 1 visits are
+/// always enough, and every budget that is enough brings the same reply.
+///
+/// # Errors
+///
+/// In this order: refusals 1 to 7, for the first bad entry of the table; 8, if
+/// there is no such question.
+pub fn verdict(table: &[u8], question: u32, budget: u32) -> Result<Verdict, Refusal> {
+    // SAFETY: the pointer and the length are those of a slice.
+    let reply = unsafe { raw::pier_verdict(table.as_ptr(), table.len(), question, budget) };
+    accepted(reply.refusal, reply.place)?;
+    let (request, visits) = (reply.request, reply.visits);
+    Ok(match reply.reply {
+        1 => Verdict::Holds { visits },
+        2 => Verdict::Fails { request, visits },
+        _ => Verdict::Unfinished { budget: visits },
+    })
+}
+
+/// Writes the table without row `row` to the front of `out` and answers how many
+/// bytes that took.
+///
+/// Each row number above `row` is lowered by one wherever it occurs, so every
+/// other row decides as before under its new number; question numbers stay. The
+/// bytes of `out` behind those written keep what they had, and on a refusal all
+/// of them do.
+///
+/// # Errors
+///
+/// In this order: refusals 1 to 7, for the first bad entry of the table; 8, if
+/// there is no such row; 9, if a row or a question names it; 11, if `out` is
+/// shorter than the bytes to write.
+pub fn strike(table: &[u8], row: u32, out: &mut [u8]) -> Result<usize, Refusal> {
+    let (table, table_len) = (table.as_ptr(), table.len());
+    // SAFETY: the pointers and the lengths are those of two slices, which cannot
+    // overlap as one of them is borrowed mutably.
+    let reply = unsafe { raw::pier_strike(table, table_len, row, out.as_mut_ptr(), out.len()) };
+    accepted(reply.refusal, reply.place)?;
+    Ok(reply.length)
+}
+
+/// Gives back the bytes of row `row`, from its kind byte on, as a part of the
+/// caller's table.
+///
+/// # Errors
+///
+/// In this order: refusals 1 to 7, for the first bad entry of the table; 8, if
+/// there is no such row.
+pub fn entry(table: &[u8], row: u32) -> Result<&[u8], Refusal> {
+    // SAFETY: the pointer and the length are those of a slice.
+    let reply = unsafe { raw::pier_entry(table.as_ptr(), table.len(), row) };
+    accepted(reply.refusal, reply.place)?;
+    // The library promises that the part lies within the table.
+    let part = table.get(reply.start..).and_then(|rest| rest.get(..reply.length));
+    Ok(part.unwrap_or_default())
+}

@@ -1,0 +1,131 @@
+//! The C functions as the static library exports them; see `pierstride.h`.
+//!
+//! A slice is a pointer, which is not null even if the slice is empty, and a
+//! length. `refusal` is the number of the refusal and 0 if there is none;
+//! `place` is its place. Every field that says nothing in a case is 0.
+//!
+//! Each function is unsafe to call for one reason: every pointer must be good
+//! for as many bytes as the length beside it says, an output for writing and
+//! apart from the table.
+
+/// The reply of [`pier_read`].
+#[repr(C)]
+#[derive(Clone, Copy, Debug)]
+pub struct PierCounts {
+    pub place: usize,
+    pub refusal: u32,
+    pub rows: u32,
+    pub questions: u32,
+    pub predicates: u32,
+}
+
+/// The reply of [`pier_decide`].
+#[repr(C)]
+#[derive(Clone, Copy, Debug)]
+pub struct PierDecided {
+    pub place: usize,
+    pub refusal: u32,
+    pub code: u32,
+}
+
+/// The reply of [`pier_possible`].
+#[repr(C)]
+#[derive(Clone, Copy, Debug)]
+pub struct PierSet {
+    pub place: usize,
+    pub refusal: u32,
+    pub set: u32,
+}
+
+/// The reply of [`pier_verdict`]; `reply` is 1 for holds, 2 for fails, 3 for
+/// unfinished, and 0 on a refusal.
+#[repr(C)]
+#[derive(Clone, Copy, Debug)]
+pub struct PierVerdictReply {
+    pub place: usize,
+    pub refusal: u32,
+    pub reply: u32,
+    pub request: u32,
+    pub visits: u32,
+}
+
+/// The reply of [`pier_strike`].
+#[repr(C)]
+#[derive(Clone, Copy, Debug)]
+pub struct PierStruck {
+    pub place: usize,
+    pub length: usize,
+    pub refusal: u32,
+}
+
+/// The reply of [`pier_entry`].
+#[repr(C)]
+#[derive(Clone, Copy, Debug)]
+pub struct PierPart {
+    pub place: usize,
+    pub start: usize,
+    pub length: usize,
+    pub refusal: u32,
+}
+
+/// Declares functions whose result is larger than 16 bytes.
+///
+/// On x86-64 they are plain C functions. In the library's native object for Arm
+/// they take a pointer to the result as their first argument instead, and return
+/// nothing; there each becomes a function of the same name that hides this.
+macro_rules! with_large_result {
+    ($($(#[$doc:meta])* fn $name:ident($($argument:ident: $type:ty),*) -> $result:ty;)*) => {$(
+        #[cfg(not(target_arch = "aarch64"))]
+        extern "C" {
+            $(#[$doc])*
+            pub fn $name($($argument: $type),*) -> $result;
+        }
+
+        $(#[$doc])*
+        ///
+        /// # Safety
+        ///
+        /// Every pointer must be good for the length beside it.
+        #[cfg(target_arch = "aarch64")]
+        pub unsafe fn $name($($argument: $type),*) -> $result {
+            extern "C" {
+                fn $name(result: *mut $result, $($argument: $type),*);
+            }
+            let mut result = std::mem::MaybeUninit::uninit();
+            $name(result.as_mut_ptr(), $($argument),*);
+            result.assume_init()
+        }
+    )*};
+}
+
+with_large_result! {
+    /// The C function behind [`read`](crate::read).
+    fn pier_read(table: *const u8, table_len: usize) -> PierCounts;
+
+    /// The C function behind [`verdict`](crate::verdict).
+    fn pier_verdict(
+        table: *const u8, table_len: usize, question: u32, budget: u32
+    ) -> PierVerdictReply;
+
+    /// The C function behind [`strike`](crate::strike).
+    fn pier_strike(
+        table: *const u8, table_len: usize, row: u32, out: *mut u8, out_len: usize
+    ) -> PierStruck;
+
+    /// The C function behind [`entry`](crate::entry).
+    fn pier_entry(table: *const u8, table_len: usize, row: u32) -> PierPart;
+}
+
+extern "C" {
+    /// The C function behind [`decide`](crate::decide).
+    pub fn pier_decide(table: *const u8, table_len: usize, row: u32, yes: u32) -> PierDecided;
+
+    /// The C function behind [`possible`](crate::possible).
+    pub fn pier_possible(
+        table: *const u8,
+        table_len: usize,
+        row: u32,
+        known: u32,
+        yes: u32,
+    ) -> PierSet;
+}

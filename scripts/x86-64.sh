@@ -1,0 +1,50 @@
+# Sourced by the test scripts: the tools that build and run x86-64 programs here.
+#
+# On an x86-64 machine these are the installed ones. On an Arm machine programs
+# are cross-compiled with Debian's packages, which are installed if missing, and
+# run under an emulator. A time measured under an emulator is no speed.
+
+# give_up REASON: ends a test script that cannot begin.
+give_up() {
+    echo "$1" >&2
+    echo "0 passed, 1 failed"
+    exit 1
+}
+
+root=$(cd "$(dirname "${BASH_SOURCE[0]}")/.." && pwd)
+library=$root/target/staticlib
+
+case $(uname -m) in
+x86_64)
+    cargo=(cargo)
+    cargo_options=()
+    cc=gcc
+    cxx=g++
+    runner=()
+    ;;
+aarch64)
+    packages=(rustc cargo libstd-rust-dev:amd64 gcc-x86-64-linux-gnu
+        g++-x86-64-linux-gnu libc6-dev-amd64-cross qemu-user)
+    if ! dpkg -s "${packages[@]}" >/dev/null 2>&1; then
+        dpkg --add-architecture amd64
+        apt-get update
+        apt-get install -y --no-install-recommends "${packages[@]}"
+    fi
+    cc=x86_64-linux-gnu-gcc
+    cxx=x86_64-linux-gnu-g++
+    # libstd-rust-dev:amd64 brings the C library that programs load; the one for
+    # cross-compiling beside it (-L) is another build and must not be mixed in.
+    runner=(/usr/bin/qemu-x86_64)
+    # By full path, as another toolchain may come first.
+    cargo=(/usr/bin/cargo)
+    cargo_options=(--target x86_64-unknown-linux-gnu)
+    export RUSTC=/usr/bin/rustc
+    export CARGO_TARGET_X86_64_UNKNOWN_LINUX_GNU_LINKER=$cc
+    export CARGO_TARGET_X86_64_UNKNOWN_LINUX_GNU_RUNNER=${runner[*]}
+    ;;
+*)
+    give_up "no way known to run x86-64 programs on $(uname -m)"
+    ;;
+esac
+
+[[ -f $library/libpierstride.a ]] || give_up "libpierstride.a is not in $library"
