@@ -5,6 +5,7 @@ use belnap::operators::OneRow;
 use belnap::operators::TwoRow;
 use belnap::orders::Order;
 ghost use mathlib.Core.Path.{_≡_};
+ghost use Prim.Native.Nat.{_+_, _≤_, _<_};
 ghost use Rattle.table.specs.Kinds.{kindOf, byteOf, formOf};
 
 pub enum Kind {
@@ -39,35 +40,95 @@ pub struct Form {
     pub names: Names,
 }
 
+// The kinds go by families, one for each high digit of the byte.
 pub fn kind_of(byte: u8) -> Announced
     ensures { λ r. ⌜ r ≡ kindOf byte ⌝ }
 {
-    match byte {
-        0x00 => Announced::Listed(Kind::Always(Decision::U)),
-        0x01 => Announced::Listed(Kind::Always(Decision::D)),
-        0x02 => Announced::Listed(Kind::Always(Decision::G)),
-        0x03 => Announced::Listed(Kind::Always(Decision::C)),
-        0x10 => Announced::Listed(Kind::DenyIf),
-        0x11 => Announced::Listed(Kind::GrantIf),
-        0x20 => Announced::Listed(Kind::One(OneRow::Negation)),
-        0x21 => Announced::Listed(Kind::One(OneRow::Conflation)),
-        0x22 => Announced::Listed(Kind::One(OneRow::ClosedDefault)),
-        0x23 => Announced::Listed(Kind::One(OneRow::OpenDefault)),
-        0x30 => Announced::Listed(Kind::Two(TwoRow::TruthMeet)),
-        0x31 => Announced::Listed(Kind::Two(TwoRow::TruthJoin)),
-        0x32 => Announced::Listed(Kind::Two(TwoRow::KnowledgeMeet)),
-        0x33 => Announced::Listed(Kind::Two(TwoRow::KnowledgeJoin)),
-        0x34 => Announced::Listed(Kind::Two(TwoRow::Implication)),
-        0x35 => Announced::Listed(Kind::Two(TwoRow::Guard)),
-        0x38 => Announced::Listed(Kind::Two(TwoRow::OverrideU)),
-        0x39 => Announced::Listed(Kind::Two(TwoRow::OverrideD)),
-        0x3A => Announced::Listed(Kind::Two(TwoRow::OverrideG)),
-        0x3B => Announced::Listed(Kind::Two(TwoRow::OverrideC)),
-        0x40 => Announced::Listed(Kind::Compare(Order::Truth)),
-        0x41 => Announced::Listed(Kind::Compare(Order::Knowledge)),
-        0x42 => Announced::Listed(Kind::Not),
-        0x43 => Announced::Listed(Kind::Both),
+    let family = byte / 16;
+    let low = byte % 16;
+    match family {
+        0 => {
+            if low < 4 {
+                return Announced::Listed(Kind::Always(belnap::decision_of(low)));
+            }
+            Announced::Unlisted
+        }
+        1 => match low {
+            0 => Announced::Listed(Kind::DenyIf),
+            1 => Announced::Listed(Kind::GrantIf),
+            _ => Announced::Unlisted,
+        },
+        2 => {
+            if low < 4 {
+                return Announced::Listed(Kind::One(one_of(low)));
+            }
+            Announced::Unlisted
+        }
+        3 => two_kind(low),
+        4 => match low {
+            0 => Announced::Listed(Kind::Compare(Order::Truth)),
+            1 => Announced::Listed(Kind::Compare(Order::Knowledge)),
+            2 => Announced::Listed(Kind::Not),
+            3 => Announced::Listed(Kind::Both),
+            _ => Announced::Unlisted,
+        },
         _ => Announced::Unlisted,
+    }
+}
+
+// The family 20: one row.
+fn one_of(low: u8) -> OneRow
+    requires { ⌜ low < 4 ⌝ }
+    ensures { λ r. ⌜ kindOf (0x20 + low) ≡ Announced.Listed (Kind.One r) ⌝ }
+{
+    match low {
+        0 => OneRow::Negation,
+        1 => OneRow::Conflation,
+        2 => OneRow::ClosedDefault,
+        _ => OneRow::OpenDefault,
+    }
+}
+
+// The family 30: two rows. 36 and 37 announce nothing.
+fn two_kind(low: u8) -> Announced
+    requires { ⌜ low < 16 ⌝ }
+    ensures { λ r. ⌜ r ≡ kindOf (0x30 + low) ⌝ }
+{
+    if low < 6 {
+        return Announced::Listed(Kind::Two(two_of(low)));
+    }
+    if low < 8 {
+        return Announced::Unlisted;
+    }
+    if low < 12 {
+        return Announced::Listed(Kind::Two(override_of(low)));
+    }
+    Announced::Unlisted
+}
+
+fn two_of(low: u8) -> TwoRow
+    requires { ⌜ low < 6 ⌝ }
+    ensures { λ r. ⌜ kindOf (0x30 + low) ≡ Announced.Listed (Kind.Two r) ⌝ }
+{
+    match low {
+        0 => TwoRow::TruthMeet,
+        1 => TwoRow::TruthJoin,
+        2 => TwoRow::KnowledgeMeet,
+        3 => TwoRow::KnowledgeJoin,
+        4 => TwoRow::Implication,
+        _ => TwoRow::Guard,
+    }
+}
+
+fn override_of(low: u8) -> TwoRow
+    requires { ⌜ (8 ≤ low) × (low < 12) ⌝ }
+    ensures { λ r. ⌜ kindOf (0x30 + low) ≡ Announced.Listed (Kind.Two r) ⌝ }
+{
+    match low {
+        8 => TwoRow::OverrideU,
+        9 => TwoRow::OverrideD,
+        10 => TwoRow::OverrideG,
+        _ => TwoRow::OverrideC,
     }
 }
 

@@ -1,115 +1,73 @@
-use borrow.Author.Tests.{ne-eqb}
+use Rattle.table.proofs.KindTable.{gap, past-three, always-kind}
 use Rattle.table.specs.Kinds.{kindOf}
+use native.Mathlib.Omega.{arith}
+use Prim.Native.Nat.{_+_, _%_}
+use mathlib.Core.Path.{_≡_, refl, sym}
 use borrow.Author.Needs.{needs}
 use Rattle.table.proofs.kinds.kind_of.Statement.{statement}
 use Rattle.table.proofs.kinds.kind_of.Tie as tie
 
 returns : tie.Need-returns
-unfolding kindOf
-returns c = rw (c .match .keys1)
+returns c =
+    let q : c .before .before .before .args .byte % 16 ≡ c .before .before .before .args .byte = omega arith in
+    rw (c .decision-of .ensures, q) (always-kind (c .before .before .before .args .byte) (omega arith))
 
 returns-2 : tie.Need-returns-2
-unfolding kindOf
-returns-2 c = rw (c .match .keys2)
+returns-2 c = let q : 0x20 + c .before .before .before .args .byte % 16 ≡ c .before .before .before .args .byte = omega arith in sym (rw q at (c .one-of .ensures))
 
 returns-3 : tie.Need-returns-3
-unfolding kindOf
-returns-3 c = rw (c .match .keys3)
+returns-3 c = sym (gap 0x04 0x10 (c .before .before .args .byte) refl (omega arith) (omega arith))
 
 returns-4 : tie.Need-returns-4
 unfolding kindOf
-returns-4 c = rw (c .match .keys4)
+returns-4 c = let q : c .before .before .args .byte ≡ 0x10 = omega arith in rw q
 
 returns-5 : tie.Need-returns-5
 unfolding kindOf
-returns-5 c = rw (c .match .keys5)
+returns-5 c = let q : c .before .before .args .byte ≡ 0x11 = omega arith in rw q
 
 returns-6 : tie.Need-returns-6
-unfolding kindOf
-returns-6 c = rw (c .match .keys6)
+returns-6 c = sym (gap 0x12 0x20 (c .before .before .args .byte) refl (omega (arith, c .match2 .rest .0 .1, c .match2 .rest .1)) (omega arith))
 
 returns-7 : tie.Need-returns-7
-unfolding kindOf
-returns-7 c = rw (c .match .keys7)
+returns-7 c = sym (gap 0x24 0x30 (c .before .before .args .byte) refl (omega arith) (omega arith))
 
 returns-8 : tie.Need-returns-8
-unfolding kindOf
-returns-8 c = rw (c .match .keys8)
+returns-8 c = let q : 0x30 + c .before .before .args .byte % 16 ≡ c .before .before .args .byte = omega arith in rw q at (c .two-kind .ensures)
 
 returns-9 : tie.Need-returns-9
 unfolding kindOf
-returns-9 c = rw (c .match .keys9)
+returns-9 c = let q : c .before .before .args .byte ≡ 0x40 = omega arith in rw q
 
 returns-10 : tie.Need-returns-10
 unfolding kindOf
-returns-10 c = rw (c .match .keys10)
+returns-10 c = let q : c .before .before .args .byte ≡ 0x41 = omega arith in rw q
 
 returns-11 : tie.Need-returns-11
 unfolding kindOf
-returns-11 c = rw (c .match .keys11)
+returns-11 c = let q : c .before .before .args .byte ≡ 0x42 = omega arith in rw q
 
 returns-12 : tie.Need-returns-12
 unfolding kindOf
-returns-12 c = rw (c .match .keys12)
+returns-12 c = let q : c .before .before .args .byte ≡ 0x43 = omega arith in rw q
 
 returns-13 : tie.Need-returns-13
-unfolding kindOf
-returns-13 c = rw (c .match .keys13)
+returns-13 c =
+    let l = past-three (c .before .before .args .byte % 16) (c .match3 .rest .0 .0 .0 .1) (c .match3 .rest .0 .0 .1) (c .match3 .rest .0 .1) (c .match3 .rest .1) in
+    sym (gap 0x44 0x50 (c .before .before .args .byte) refl (omega (arith, c .before .match .keys5, l)) (omega (arith, c .before .match .keys5)))
 
 returns-14 : tie.Need-returns-14
-unfolding kindOf
-returns-14 c = rw (c .match .keys14)
-
-returns-15 : tie.Need-returns-15
-unfolding kindOf
-returns-15 c = rw (c .match .keys15)
-
-returns-16 : tie.Need-returns-16
-unfolding kindOf
-returns-16 c = rw (c .match .keys16)
-
-returns-17 : tie.Need-returns-17
-unfolding kindOf
-returns-17 c = rw (c .match .keys17)
-
-returns-18 : tie.Need-returns-18
-unfolding kindOf
-returns-18 c = rw (c .match .keys18)
-
-returns-19 : tie.Need-returns-19
-unfolding kindOf
-returns-19 c = rw (c .match .keys19)
-
-returns-20 : tie.Need-returns-20
-unfolding kindOf
-returns-20 c = rw (c .match .keys20)
-
-returns-21 : tie.Need-returns-21
-unfolding kindOf
-returns-21 c = rw (c .match .keys21)
-
-returns-22 : tie.Need-returns-22
-unfolding kindOf
-returns-22 c = rw (c .match .keys22)
-
-returns-23 : tie.Need-returns-23
-unfolding kindOf
-returns-23 c = rw (c .match .keys23)
-
-returns-24 : tie.Need-returns-24
-unfolding kindOf
-returns-24 c = rw (c .match .keys24)
-
-returns-25 : tie.Need-returns-25
-unfolding kindOf
-returns-25 c = simp (ne-eqb _ _ (c .match .rest .0 .0 .0 .0 .0 .0 .0 .0 .0 .0 .0 .0 .0 .0 .0 .0 .0 .0 .0 .0 .0 .0 .0 .1), ne-eqb _ _ (c .match .rest .0 .0 .0 .0 .0 .0 .0 .0 .0 .0 .0 .0 .0 .0 .0 .0 .0 .0 .0 .0 .0 .0 .1), ne-eqb _ _ (c .match .rest .0 .0 .0 .0 .0 .0 .0 .0 .0 .0 .0 .0 .0 .0 .0 .0 .0 .0 .0 .0 .0 .1), ne-eqb _ _ (c .match .rest .0 .0 .0 .0 .0 .0 .0 .0 .0 .0 .0 .0 .0 .0 .0 .0 .0 .0 .0 .0 .1), ne-eqb _ _ (c .match .rest .0 .0 .0 .0 .0 .0 .0 .0 .0 .0 .0 .0 .0 .0 .0 .0 .0 .0 .0 .1), ne-eqb _ _ (c .match .rest .0 .0 .0 .0 .0 .0 .0 .0 .0 .0 .0 .0 .0 .0 .0 .0 .0 .0 .1), ne-eqb _ _ (c .match .rest .0 .0 .0 .0 .0 .0 .0 .0 .0 .0 .0 .0 .0 .0 .0 .0 .0 .1), ne-eqb _ _ (c .match .rest .0 .0 .0 .0 .0 .0 .0 .0 .0 .0 .0 .0 .0 .0 .0 .0 .1), ne-eqb _ _ (c .match .rest .0 .0 .0 .0 .0 .0 .0 .0 .0 .0 .0 .0 .0 .0 .0 .1), ne-eqb _ _ (c .match .rest .0 .0 .0 .0 .0 .0 .0 .0 .0 .0 .0 .0 .0 .0 .1), ne-eqb _ _ (c .match .rest .0 .0 .0 .0 .0 .0 .0 .0 .0 .0 .0 .0 .0 .1), ne-eqb _ _ (c .match .rest .0 .0 .0 .0 .0 .0 .0 .0 .0 .0 .0 .0 .1), ne-eqb _ _ (c .match .rest .0 .0 .0 .0 .0 .0 .0 .0 .0 .0 .0 .1), ne-eqb _ _ (c .match .rest .0 .0 .0 .0 .0 .0 .0 .0 .0 .0 .1), ne-eqb _ _ (c .match .rest .0 .0 .0 .0 .0 .0 .0 .0 .0 .1), ne-eqb _ _ (c .match .rest .0 .0 .0 .0 .0 .0 .0 .0 .1), ne-eqb _ _ (c .match .rest .0 .0 .0 .0 .0 .0 .0 .1), ne-eqb _ _ (c .match .rest .0 .0 .0 .0 .0 .0 .1), ne-eqb _ _ (c .match .rest .0 .0 .0 .0 .0 .1), ne-eqb _ _ (c .match .rest .0 .0 .0 .0 .1), ne-eqb _ _ (c .match .rest .0 .0 .0 .1), ne-eqb _ _ (c .match .rest .0 .0 .1), ne-eqb _ _ (c .match .rest .0 .1), ne-eqb _ _ (c .match .rest .1))
+returns-14 c = sym (gap 0x50 0x100 (c .before .args .byte) refl (omega (arith, c .match .rest .0 .0 .0 .0 .1, c .match .rest .0 .0 .0 .1, c .match .rest .0 .0 .1, c .match .rest .0 .1, c .match .rest .1)) (omega arith))
 
 pub kind-of-spec : {M : Type 1} → statement M
 kind-of-spec =
     tie.close
     (tie.spec
+    (λ c κs. search needs)
     returns
+    (λ c κs. search needs)
     returns-2
+    (λ c κs. search needs)
     returns-3
     returns-4
     returns-5
@@ -121,15 +79,4 @@ kind-of-spec =
     returns-11
     returns-12
     returns-13
-    returns-14
-    returns-15
-    returns-16
-    returns-17
-    returns-18
-    returns-19
-    returns-20
-    returns-21
-    returns-22
-    returns-23
-    returns-24
-    returns-25)
+    returns-14)
