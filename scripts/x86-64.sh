@@ -1,10 +1,10 @@
-# Sourced by the test scripts: the tools that build and run x86-64 programs here.
+# Sourced by the other scripts: the tools that build and run x86-64 programs here.
 #
 # On an x86-64 machine these are the installed ones. On an Arm machine programs
 # are cross-compiled with Debian's packages, which are installed if missing, and
 # run under an emulator. A time measured under an emulator is no speed.
 
-# give_up REASON: ends a test script that cannot begin.
+# give_up REASON: ends a script that cannot begin.
 give_up() {
     echo "$1" >&2
     echo "0 passed, 1 failed"
@@ -47,4 +47,7 @@ aarch64)
     ;;
 esac
 
-[[ -f $library/libpierstride.a ]] || give_up "libpierstride.a is not in $library"
+# need_library: for a script that links the static library.
+need_library() {
+    [[ -f $library/libpierstride.a ]] || give_up "libpierstride.a is not in $library: rt staticlib pierstride makes it"
+}

@@ -1,3 +1,4 @@
 -- Laws of the services; below this file, a folder for each function that has a proof of its own.
 pub mod KnownMasks
 pub mod Serving
+pub mod Unique
