@@ -17,7 +17,7 @@ use Rattle.table.specs.declared.lookup.Place.{Place}
 use Rattle.table.specs.declared.lookup.Place.the-variants.{At, Missing}
 use Rattle.table.specs.Entries.{blank, rowLimit, numbersOf, bytesOf}
 use Rattle.table.specs.Reading.{Contents, Result, accepted, refused, reading, written, tableOf}
-use Rattle.table.specs.Lookup.{placeOf, entryBytes, entryOutcome}
+use Rattle.table.specs.Lookup.{placeOf, partAt, entryBytes, entryOutcome}
 use Rattle.table.proofs.OneEntry.{length-bytes}
 use Rattle.table.proofs.Writing.{written-append, written-more, of-accepted}
 use Rattle.table.proofs.Padding.{padded-at, padded-front}
@@ -96,7 +96,7 @@ missing-bytes (accepted c) r n p q = go (ltb r (length (c .rows))) q
     go false q = (refl, cc)
 missing-bytes (refused m o) r n p q = (refl, cc)
 
--- the part of the table at a place: it lies inside, and holds the entry's bytes
+-- the part of the table at a place: it lies inside, holds the entry's bytes, and starts where the place says
 part-at : (s : List ℕ) (r a b : ℕ) (c : Contents) → reading s ≡ accepted c → r < length (c .rows) →
     a ≡ length (written (take r (c .rows))) → b ≡ length (bytesOf (getD (c .rows) r blank)) →
     (a + b ≤ length s) × (take (a + b - a) (drop a s) ≡ entryBytes (reading s) r)
@@ -105,5 +105,14 @@ part-at s r a b c q h p l = (
   rw (add-sub-cancel-left a b, p, l) (part-bytes s c r q h ∙ sym (at-entry (reading s) r c q h .0)),
 )
 
-pub at-part : (s : List ℕ) (r a b : ℕ) → placeOf (reading s) r ≡ At a b → (a + b ≤ length s) × (take (a + b - a) (drop a s) ≡ entryBytes (reading s) r)
-at-part s r a b q = let o = at-of (reading s) r a b q in part-at s r a b (o .0) (o .1) (o .2) (o .3) (o .4)
+pub at-part : (s : List ℕ) (r a b : ℕ) → placeOf (reading s) r ≡ At a b →
+    (a + b ≤ length s) × (take (a + b - a) (drop a s) ≡ entryBytes (reading s) r) × (take (a + b - a) (drop a s) ≡ partAt (placeOf (reading s) r) s)
+unfolding partAt
+at-part s r a b q =
+    let o = at-of (reading s) r a b q in
+    let h = part-at s r a b (o .0) (o .1) (o .2) (o .3) (o .4) in
+    (h .0, h .1, rw (q, add-sub-cancel-left a b))
+
+pub missing-part : (s : List ℕ) (r n p : ℕ) → placeOf (reading s) r ≡ Missing n p → ([] ≡ entryBytes (reading s) r) × ([] ≡ partAt (placeOf (reading s) r) s)
+unfolding partAt
+missing-part s r n p q = (sym (missing-bytes (reading s) r n p q .0), rw q)

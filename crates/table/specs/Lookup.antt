@@ -2,7 +2,7 @@
 use Prim.Native.Nat.{ℕ}
 use mathlib.Core.Bool.{Bool, true, false, cond}
 use mathlib.Core.List.{List, []}
-use lib.ListN.{length, getD, take}
+use lib.ListN.{length, getD, take, drop}
 use lib.Dec.{ltb}
 use Rattle.table.specs.declared.Outcome.{Outcome}
 use Rattle.table.specs.declared.Outcome.the-variants.{Read, Refused}
@@ -20,6 +20,11 @@ missingOf (Refused n p) = Missing n p
 unfoldable pub placeOf : Result → ℕ → Place
 placeOf (accepted c) r = cond (ltb r (length (c .rows))) (At (length (written (take r (c .rows)))) (length (bytesOf (getD (c .rows) r blank)))) (Missing 8 0)
 placeOf (refused n p) r = Missing n p
+
+-- the part of a table at a place; an empty one where there is none
+unfoldable pub partAt : Place → List ℕ → List ℕ
+partAt (At start n) table = take n (drop start table)
+partAt (Missing n p) table = []
 
 -- "Asking for row r gives back that entry's own bytes …; a refusal gives an empty part"
 unfoldable pub entryBytes : Result → ℕ → List ℕ

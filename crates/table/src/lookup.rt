@@ -6,7 +6,7 @@ ghost use mathlib.Core.Path.{_≡_};
 ghost use Prim.Native.Nat.{_≤_, _<_};
 ghost use lib.ListN.{length, take};
 ghost use Rattle.table.specs.Reading.{reading, written};
-ghost use Rattle.table.specs.Lookup.{missingOf, placeOf, entryBytes, entryOutcome};
+ghost use Rattle.table.specs.Lookup.{missingOf, placeOf, partAt, entryBytes, entryOutcome};
 
 // Where a row's bytes start and how many they are, or a refusal's number and place.
 pub enum Place {
@@ -60,7 +60,7 @@ pub fn find(table: &[u8], row: u32) -> Place
 
 // The row's own bytes, as a part of the table that starts at the row's kind byte; an empty part where there is none.
 pub fn entry(table: &[u8], row: u32) -> &[u8]
-    ensures { λ r. ⌜ now r ≡ entryBytes (reading (now (table .entry))) row ⌝ }
+    ensures { λ r. ⌜ (now r ≡ entryBytes (reading (now (table .entry))) row) × (now r ≡ partAt (placeOf (reading (now (table .entry))) row) (now (table .entry))) ⌝ }
 {
     let found = find(table, row);
     match found {

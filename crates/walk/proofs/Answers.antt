@@ -6,7 +6,7 @@ use mathlib.Core.Bool.{Bool, true, false, cond}
 use mathlib.Core.List.{List}
 use Prim.Native.Nat.{ℕ, zero, suc, _+_, _-_, _^_, _≤_, _<_}
 use native.Mathlib.Omega.{arith}
-use native.Mathlib.Nat.{pow-le-pow-right}
+use native.Mathlib.Nat.{pow-le-pow-right, zero-add, suc-add}
 use Rattle.belnap.specs.Decisions.{alike}
 use Rattle.table.specs.declared.entries.Entry.{Entry}
 use Rattle.table.specs.Reading.{predicates}
@@ -68,6 +68,34 @@ same-first left k o m e h = go (bit o k) (bit m k) e h
 yes-later : (left k o m : ℕ) → bit o k ≡ true → bit m k ≡ false → beforeFrom (suc left) k o m ≡ true → ⊥
 unfolding beforeFrom
 yes-later left k o m a b h = never (sym (rw (a, b) at h))
+
+-- of two requests that differ on one of the predicates, one comes before the other
+pub neither-alike : (left k m o : ℕ) → beforeFrom left k m o ≡ false → beforeFrom left k o m ≡ false → (p : ℕ) → k ≤ p → p < k + left → bit m p ≡ bit o p
+unfolding beforeFrom
+neither-alike zero k m o e f p h l = absurd (omega arith)
+neither-alike (suc left) k m o e f p h l =
+    go (bit m k) (bit o k) refl refl e f (λ x y g. neither-alike left (k + 1) m o x y p g (omega arith))
+  where
+    go : (a b : Bool) → bit m k ≡ a → bit o k ≡ b → cond (alike a b) (beforeFrom left (k + 1) m o) b ≡ false → cond (alike b a) (beforeFrom left (k + 1) o m) a ≡ false →
+        (beforeFrom left (k + 1) m o ≡ false → beforeFrom left (k + 1) o m ≡ false → k + 1 ≤ p → bit m p ≡ bit o p) → bit m p ≡ bit o p
+    go true true x y e f on = by-order p (k + 1) (λ g. let q : p ≡ k = omega arith in rw (q, x, y)) (on e f)
+    go false false x y e f on = by-order p (k + 1) (λ g. let q : p ≡ k = omega arith in rw (q, x, y)) (on e f)
+    go true false x y e f on = never f
+    go false true x y e f on = never e
+
+-- predicates that the later request says no to do not bring another before it
+before-fewer : (left more k o m : ℕ) → ((p : ℕ) → k + left ≤ p → bit m p ≡ false) → beforeFrom (left + more) k o m ≡ true → beforeFrom left k o m ≡ true
+unfolding beforeFrom
+before-fewer zero more k o m h e = absurd (none-before more k m o (λ p l. h p (omega arith)) (rw (zero-add more) at e))
+before-fewer (suc left) more k o m h e =
+    go (bit o k) (bit m k) (rw (suc-add left more) at e) (before-fewer left more (k + 1) o m (λ p l. h p (omega arith)))
+  where
+    go : (a b : Bool) → cond (alike a b) (beforeFrom (left + more) (k + 1) o m) b ≡ true →
+        (beforeFrom (left + more) (k + 1) o m ≡ true → beforeFrom left (k + 1) o m ≡ true) → cond (alike a b) (beforeFrom left (k + 1) o m) b ≡ true
+    go true true e on = on e
+    go true false e on = e
+    go false true e on = e
+    go false false e on = on e
 
 module _ (see : ℕ → ℕ → Look) (true-at : ℕ → Bool) (n : ℕ)
     (right : (k facts o : ℕ) → see k facts ≡ True → Agrees k facts o → true-at o ≡ true)
@@ -203,12 +231,13 @@ module _ (rows questions : List Entry) (j : ℕ) where
   pub nothing-holds : (c : ℕ) → walk rows questions n j ≡ nothing c → (o : ℕ) → trueAt o ≡ true
   nothing-holds c e o = (rw e at said) o (λ p l. absurd (omega arith))
 
-  -- where it finds a request, that one breaks the question, has no bit from n up, and every request before it keeps the question
+  -- where it finds a request, that one breaks the question, has no bit from n up, and every request before it keeps the question: over the n predicates, and so over
+  -- any greater number of them
   pub breaking-first : (m c : ℕ) → walk rows questions n j ≡ breaking m c →
-      (trueAt m ≡ false) × (m < 2 ^ n) × ((o : ℕ) → comesBefore n o m ≡ true → trueAt o ≡ true)
+      (trueAt m ≡ false) × (m < 2 ^ n) × ((more o : ℕ) → comesBefore (n + more) o m ≡ true → trueAt o ≡ true)
   breaking-first m c e =
       let b = rw e at said in
-      (b .broken, b .small, λ o h. b .first o (λ p l. absurd (omega arith)) h)
+      (b .broken, b .small, λ more o h. b .first o (λ p l. absurd (omega arith)) (before-fewer n more 0 o m (λ p l. bit-above m n p (b .small) (omega arith)) h))
 
   -- "A question holds if it is true at every request": over the n predicates, and so over any number of them
   pub holds-if-true : ((o : ℕ) → o < 2 ^ n → trueAt o ≡ true) → (c : ℕ) × (walk rows questions n j ≡ nothing c)

@@ -1,5 +1,5 @@
 use native.Mathlib.Omega.{arith}
-use Rattle.table.proofs.RowPart.{at-part, missing-bytes}
+use Rattle.table.proofs.RowPart.{at-part, missing-part}
 use mathlib.Core.Path.{_≡_, refl, sym, ap, _∙_}
 use borrow.Author.Needs.{needs}
 use Rattle.table.proofs.lookup.entry.Statement.{statement}
@@ -12,10 +12,12 @@ part-result-end : tie.Need-part-result-end
 part-result-end c = at-part (c .before .before .before .before .before .args .table .now) (c .before .before .before .before .before .args .row) (c .before .found .given .0 .0) (c .before .found .given .0 .1 .0) (sym (c .before .before .before .find .ensures) ∙ c .before .found .given .1) .0
 
 returns : tie.Need-returns
-returns c = at-part (c .before .before .before .before .before .before .args .table .now) (c .before .before .before .before .before .before .args .row) (c .before .before .found .given .0 .0) (c .before .before .found .given .0 .1 .0) (sym (c .before .before .before .before .find .ensures) ∙ c .before .before .found .given .1) .1
+returns c =
+    let h = at-part (c .before .before .before .before .before .before .args .table .now) (c .before .before .before .before .before .before .args .row) (c .before .before .found .given .0 .0) (c .before .before .found .given .0 .1 .0) (sym (c .before .before .before .before .find .ensures) ∙ c .before .before .found .given .1) in
+    (h .1, h .2)
 
 returns-2 : tie.Need-returns-2
-returns-2 c = sym (missing-bytes _ _ _ _ (sym (c .before .before .before .find .ensures) ∙ c .before .enum-told .given .1) .0)
+returns-2 c = missing-part _ _ _ _ (sym (c .before .before .before .find .ensures) ∙ c .before .enum-told .given .1)
 
 pub entry-spec : {M : Type 1} → statement M
 entry-spec =
