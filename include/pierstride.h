@@ -36,7 +36,7 @@
  * thread may make any call at any time, as long as no other thread writes to its
  * slices meanwhile.
  *
- * Stack. A call needs at most 256 KiB of it.
+ * Stack. A call needs less than 32 KiB of it.
  *
  * Masks. Predicate i is bit i of a mask, i from 0 to 23.
  */

@@ -1,21 +1,20 @@
 -- Data independence (002, as 01 condenses it): requests that agree on every predicate that a row reaches get the same decision from it.
 -- Assumes nothing.
-use mathlib.Core.Path.{_≡_, refl, sym, ap, ap₂, _∙_}
-use mathlib.Core.Bool.{Bool, true, false, cond, _||_}
+use mathlib.Core.Path.{_≡_, refl, ap, ap₂}
+use mathlib.Core.Bool.{Bool, true, false, _||_}
 use mathlib.Core.List.{List}
-use Prim.Native.Nat.{ℕ, _+_, _≤_, _<_}
+use Prim.Native.Nat.{ℕ, _≤_, _<_}
 use native.Mathlib.Omega.{arith}
 use lib.ListN.{getD}
-use lib.Dec.{eqb}
 use borrow.Author.Tests.{eqb-true, eq-eqb}
 use Rattle.belnap.specs.declared.Decision.{Decision}
-use Rattle.belnap.specs.declared.Decision.the-variants.{U, D, G, C}
+use Rattle.belnap.specs.declared.Decision.the-variants.{U}
 use Rattle.belnap.specs.Operators.{one, two}
 use Rattle.table.specs.declared.kinds.Kind.{Kind}
 use Rattle.table.specs.declared.kinds.Kind.the-variants.{Always, DenyIf, GrantIf, One, Two, Compare, Not, Both}
 use Rattle.table.specs.declared.entries.Entry.{Entry}
 use Rattle.table.specs.Kinds.{formOf}
-use Rattle.table.specs.Entries.{blank, uses, usedBy}
+use Rattle.table.specs.Entries.{blank, usedBy}
 use Rattle.table.specs.Reading.{predicates}
 use Rattle.table.proofs.Numbers.{by-order}
 use Rattle.table.proofs.Laws.{used-below}

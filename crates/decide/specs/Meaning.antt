@@ -4,7 +4,7 @@ use mathlib.Core.Bool.{Bool, cond}
 use mathlib.Core.List.{List}
 use lib.Dec.{eqb, ltb}
 use Rattle.belnap.specs.declared.Decision.{Decision}
-use Rattle.belnap.specs.declared.Decision.the-variants.{U, D, G, C}
+use Rattle.belnap.specs.declared.Decision.the-variants.{U, D, G}
 use Rattle.belnap.specs.Operators.{one, two}
 use Rattle.table.specs.declared.kinds.Kind.{Kind}
 use Rattle.table.specs.declared.kinds.Kind.the-variants.{Always, DenyIf, GrantIf, One, Two, Compare, Not, Both}

@@ -1,7 +1,7 @@
 -- How a service answers: from a reading that was refused, and from one that was opened.
 -- Assumes nothing.
-use mathlib.Core.Path.{_≡_, refl, sym, ap, ap₂, _∙_}
-use mathlib.Core.Bool.{Bool, true, false, cond}
+use mathlib.Core.Path.{_≡_, sym, ap, _∙_}
+use mathlib.Core.Bool.{true, false}
 use mathlib.Core.List.{List}
 use Prim.Native.Nat.{ℕ, _≤_, _<_}
 use native.Mathlib.Omega.{arith}
@@ -10,17 +10,16 @@ use borrow.Author.Tests.{lt-ltb, le-ltb}
 use Rattle.belnap.specs.Decisions.{code}
 use Rattle.belnap.specs.declared.Decision.{Decision}
 use Rattle.belnap.specs.declared.Decision.the-variants.{U}
-use Rattle.table.specs.declared.entries.Entry.{Entry}
 use Rattle.table.specs.declared.Table.{Table}
 use Rattle.table.specs.declared.Reading.{Reading}
 use Rattle.table.specs.Entries.{blank, predicateLimit, rowLimit, questionLimit}
-use Rattle.table.specs.Reading.{Contents, Result, accepted, refused, reading, predicates, padded, tableOf}
+use Rattle.table.specs.Reading.{Result, refused, reading, predicates, tableOf}
 use Rattle.table.proofs.Laws.{limits}
 use Rattle.table.proofs.Opening.{Opened, Turned}
 use Rattle.table.proofs.Padding.{padded-at}
 use Rattle.decide.specs.Meaning.{decides, decision, decisionIn}
 use Rattle.decide.proofs.RowByRow.{same-value}
-use Rattle.possible.specs.Sets.{Set, single, mask}
+use Rattle.possible.specs.Sets.{single, mask}
 use Rattle.possible.specs.Possible.{setOf, possible, possibleIn}
 use Rattle.walk.specs.declared.Reply.{Reply}
 use Rattle.walk.specs.Walk.{walk, replyOf}
@@ -29,9 +28,8 @@ use Rattle.pierstride.specs.declared.Refusal.{Refusal}
 use Rattle.pierstride.specs.declared.Counts.{Counts}
 use Rattle.pierstride.specs.declared.Decided.{Decided}
 use Rattle.pierstride.specs.declared.Remaining.{Remaining}
-use Rattle.pierstride.specs.declared.Verdict.{Verdict}
 use Rattle.pierstride.specs.Masks.{beyond, badMasks}
-use Rattle.pierstride.specs.Services.{refusalOf, refusedCounts, countsOf, refusedDecided, decidedOf, refusedRemaining, remainingOf, refusedVerdict, repliedOf, verdictOf}
+use Rattle.pierstride.specs.Services.{refusalOf, countsOf, refusedDecided, decidedOf, refusedRemaining, remainingOf, refusedVerdict, repliedOf, verdictOf}
 
 -- a refusal of reading's is passed on unchanged, by every service
 pub passed-on : {A : Type 0} (answer : Result → A) (refusing : ℕ → ℕ → A) → ((n p : ℕ) → answer (refused n p) ≡ refusing n p) →

@@ -16,7 +16,6 @@ use Rattle.possible.specs.Sets.{mask}
 use Rattle.possible.specs.Possible.{possibleIn}
 use Rattle.walk.specs.declared.Reply.{Reply}
 use Rattle.walk.specs.Walk.{walk, replyOf}
-use Rattle.strike.specs.declared.Struck.{Struck}
 use Rattle.strike.specs.Strike.{struckAnswer, struckOutput}
 use Rattle.pierstride.specs.declared.Counts.{Counts}
 use Rattle.pierstride.specs.declared.Decided.{Decided}

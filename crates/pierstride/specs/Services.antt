@@ -2,7 +2,6 @@
 -- A struct gives 01's number and values for each case: `refusal` is the number of the refusal, 0 for none; what says nothing in a case is 0.
 use Prim.Native.Nat.{ℕ}
 use mathlib.Core.Bool.{cond}
-use mathlib.Core.List.{List}
 use lib.ListN.{length}
 use lib.Dec.{ltb}
 use Rattle.belnap.specs.Decisions.{code}

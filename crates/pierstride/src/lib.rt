@@ -9,7 +9,7 @@ ghost use lib.ListN.{length};
 ghost use Rattle.table.specs.Reading.{reading};
 ghost use Rattle.strike.specs.Strike.{struckAnswer, struckOutput};
 ghost use Rattle.pierstride.specs.Masks.{beyond, knownBelow, badMasks};
-ghost use Rattle.pierstride.specs.Services.{refusalOf, refusedCounts, countsOf, refusedDecided, decidedOf, refusedRemaining, remainingOf, refusedVerdict, repliedOf, verdictOf, partOf, locatedOf, closedOf};
+ghost use Rattle.pierstride.specs.Services.{refusalOf, refusedCounts, countsOf, refusedDecided, decidedOf, refusedRemaining, remainingOf, refusedVerdict, repliedOf, verdictOf, locatedOf, closedOf};
 
 // A refusal's number and place.
 pub struct Refusal {
@@ -74,6 +74,7 @@ fn refusal_of(outcome: Outcome) -> Refusal
     ensures { λ r. ⌜ r ≡ refusalOf outcome ⌝ }
 {
     match outcome {
+        // no refusal: never passed on
         Outcome::Read => Refusal {
             number: 0,
             place: 0,

@@ -1,10 +1,10 @@
 -- What the sets of rows say (the letter's third demand): the decision under every way of filling the missing facts in is a member, learning a fact
 -- adds none, with nothing unknown only the true decision is left, and no set is empty.
 -- Assumes nothing.
-use mathlib.Core.Path.{_≡_, refl, sym, ap, ap₂, _∙_}
+use mathlib.Core.Path.{_≡_, refl, ap, ap₂, _∙_}
 use mathlib.Core.Bool.{Bool, true, false, cond}
 use mathlib.Core.List.{List}
-use Prim.Native.Nat.{ℕ, _+_, _≤_, _<_}
+use Prim.Native.Nat.{ℕ, _≤_, _<_}
 use native.Mathlib.Omega.{arith}
 use lib.ListN.{getD}
 use Rattle.belnap.specs.declared.Decision.{Decision}

@@ -51,9 +51,6 @@ either-left s t v e = has-those (λ v. has s v || has t v) v ∙ left (has s v) 
 pub either-right : (s t : Set) → Within t (either s t)
 either-right s t v e = has-those (λ v. has s v || has t v) v ∙ right (has s v) (has t v) e
 
-pub either-from : {P : Type 0} (s t : Set) (v : Decision) → has (either s t) v ≡ true → (has s v ≡ true → P) → (has t v ≡ true → P) → P
-either-from s t v e = part (has s v) (has t v) (sym (has-those (λ v. has s v || has t v) v) ∙ e)
-
 -- what a choice leads to is there, and nothing else; one choice alone; more choices, each of which leads to more
 over-has : (s : Set) (f : Decision → Set) (x v : Decision) → has s x ≡ true → has (f x) v ≡ true → has (over s f) v ≡ true
 unfolding over

@@ -3,7 +3,6 @@
 use Prim.Native.Nat.{ℕ}
 use mathlib.Core.Path.{_≡_, refl}
 use mathlib.Core.List.{List, [], _∷_, _++_, map}
-use lib.ListN.{length}
 use Rattle.belnap.proofs.Notebook as decisions
 use Rattle.belnap.proofs.Notebook.{Case}
 use Rattle.table.specs.Kinds.{kindOf}

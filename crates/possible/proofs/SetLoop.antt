@@ -13,7 +13,7 @@ use Rattle.table.specs.declared.entries.Entry.{Entry}
 use Rattle.table.proofs.Runs.{held-at, run-holds, upTo-at}
 use Rattle.decide.specs.Rows.{values, valueAt}
 use Rattle.decide.proofs.RowByRow.{same-value, coded-at, coded-get, coded-turn}
-use Rattle.possible.specs.Sets.{Set, single, mask, ofMask}
+use Rattle.possible.specs.Sets.{single, mask, ofMask}
 use Rattle.possible.specs.Possible.{setBy, setOf, possible}
 use Rattle.possible.proofs.Masks.{of-mask}
 

@@ -3,14 +3,13 @@
 -- Nothing needs repair by hand: the row named under the old number is the row named under the new one (`old-lower`).
 -- Assumes nothing.
 use mathlib.Core.Path.{_≡_, refl, sym, ap, ap₂, fun-ext, _∙_}
-use mathlib.Core.Bool.{Bool, true, false, cond, not, _&&_}
+use mathlib.Core.Bool.{true, false}
 use mathlib.Core.List.{List}
-use Prim.Native.Nat.{ℕ, zero, suc, _+_, _-_, _^_, _≤_, _<_}
+use Prim.Native.Nat.{ℕ, zero, suc, _+_, _-_, _^_, _<_}
 use native.Mathlib.Omega.{arith}
 use lib.ListN.{length, getD, List·getD-eq-default}
 use lib.Dec.{ltb, eqb}
 use borrow.Author.Tests.{ltb-true, eqb-false}
-use Rattle.belnap.specs.declared.Decision.{Decision}
 use Rattle.belnap.specs.declared.Decision.the-variants.{U}
 use Rattle.belnap.specs.Operators.{one, two}
 use Rattle.belnap.proofs.Finite.{both-parts}
@@ -24,14 +23,14 @@ use Rattle.table.proofs.Writing.{entries, Sound, each-get, Whole}
 use Rattle.decide.specs.Rows.{values, valueAt}
 use Rattle.decide.specs.Meaning.{decideBy, decides, decision}
 use Rattle.decide.proofs.RowByRow.{by-rows, before-there, before-past}
-use Rattle.possible.specs.Sets.{Set, single, imageOne, imageTwo}
+use Rattle.possible.specs.Sets.{single, imageOne, imageTwo}
 use Rattle.possible.specs.Possible.{setBy, setOf, possible}
 use Rattle.walk.specs.declared.questions.Look.{Look}
 use Rattle.walk.specs.declared.questions.Look.the-variants.{True, False, Open}
-use Rattle.walk.specs.Questions.{truthBy, asks, truth, Truths, onlyTruth, truthSetBy, compareSet, asksSet, truthSet, look}
+use Rattle.walk.specs.Questions.{truthBy, truth, onlyTruth, truthSetBy, truthSet, look}
 use Rattle.walk.specs.Walk.{Found, nothing, visit, orElse, walkFrom, sees, walk, replyOf}
 use Rattle.walk.proofs.Answers.{settled-at-n}
-use Rattle.strike.specs.Strike.{lower, old, lowered, closedUp, struck, names, namedBy}
+use Rattle.strike.specs.Strike.{lower, old, lowered, struck, names, namedBy}
 use Rattle.strike.proofs.Renumbering.{old-lower, lower-lt}
 use Rattle.strike.proofs.Closing.{neither, kind-kept}
 use Rattle.strike.proofs.Laws.{struck-at, struck-question-at, struck-predicates, unnamed-row, unnamed-question}

@@ -35,22 +35,12 @@ sides {P} a b f g = go (ltb a b) refl
     go true e = f (ltb-true a b e)
     go false e = g (ltb-false a b e)
 
--- lowering and the old number undo one another
+-- lowering undone
 pub old-lower : (r x : ℕ) → (x ≡ r → ⊥) → old r (lower r x) ≡ x
 old-lower r x h =
     sides r x
     (λ l. rw (lower-above r x l, old-above r (x - 1) (omega arith)) (omega arith))
     (λ l. rw (lower-below r x l) (old-below r x (omega (arith, h))))
-
-pub lower-old : (r j : ℕ) → lower r (old r j) ≡ j
-lower-old r j =
-    sides j r
-    (λ l. rw (old-below r j l) (lower-below r j (omega arith)))
-    (λ l. rw (old-above r j l, lower-above r (suc j) (omega arith)) (omega arith))
-
--- the row at j was not the one that is struck
-pub old-not : (r j : ℕ) → old r j ≡ r → ⊥
-old-not r j q = sides j r (λ l. omega (arith, old-below r j l)) (λ l. omega (arith, old-above r j l))
 
 -- a lower row is lower under its new number
 pub lower-lt : (r x j : ℕ) → (x ≡ r → ⊥) → x < old r j → lower r x < j

@@ -123,6 +123,7 @@ fn refused(outcome: Outcome) -> Struck
     ensures { λ s. ⌜ s ≡ refusedAs outcome ⌝ }
 {
     match outcome {
+        // no refusal: never passed on
         Outcome::Read => Struck::Refused(0, 0),
         Outcome::Refused(number, place) => Struck::Refused(number, place),
     }

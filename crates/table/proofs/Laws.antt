@@ -1,28 +1,26 @@
 -- What holds of every table that is accepted, and of every one that is refused (01, "The table, byte by byte" and "When we say no").
 -- Assumes nothing.
 use mathlib.Core.Path.{_≡_, refl, sym, ap, _∙_}
-use mathlib.Core.Bool.{Bool, true, false, cond, _&&_}
+use mathlib.Core.Bool.{Bool, true, false, cond}
 use mathlib.Core.List.{List, [], _∷_, _++_, append-assoc}
-use Prim.Native.Nat.{ℕ, zero, suc, _+_, _*_, _-_, _≤_, _<_, max}
+use Prim.Native.Nat.{ℕ, zero, suc, _+_, _*_, _-_, _≤_, _<_}
 use native.Mathlib.Omega.{arith}
-use native.Mathlib.Numerals.{add-one}
-use lib.ListN.{length, getD, take, drop, length-append, List·getD-append}
+use lib.ListN.{length, getD, take, length-append, List·getD-append}
 use lib.Seq.{take-at, take-append-add, getD-at, getD-take, length-take-le}
 use lib.Dec.{ltb}
-use borrow.Author.Tests.{ltb-true, ltb-false, lt-ltb, le-ltb}
+use borrow.Author.Tests.{ltb-true, ltb-false, le-ltb}
 use Rattle.belnap.proofs.Finite.{both-parts}
 use Rattle.table.specs.declared.kinds.Kind.{Kind}
 use Rattle.table.specs.declared.kinds.Kind.the-variants.{Always, DenyIf, GrantIf, One, Two, Compare, Not, Both}
 use Rattle.table.specs.declared.kinds.Announced.{Announced}
 use Rattle.table.specs.declared.kinds.Announced.the-variants.{Listed, Unlisted}
 use Rattle.table.specs.declared.entries.Entry.{Entry}
-use Rattle.table.specs.declared.entries.Step.{Step}
-use Rattle.table.specs.declared.entries.Step.the-variants.{Row, Question, Bad}
+use Rattle.table.specs.declared.entries.Step.the-variants.{Bad}
 use Rattle.table.specs.Kinds.{kindOf, formOf}
-use Rattle.table.specs.Entries.{predicateLimit, rowLimit, questionLimit, blank, numbersOf, bytesOf, uses, usedBy, noRoom, limit, misnamed, numberAt, named, placed, bodyStep, unless, stepBy, stepOf}
-use Rattle.table.specs.Reading.{Contents, none, Result, accepted, refused, after, readOn, reading, predicates, written}
-use Rattle.table.proofs.OneEntry.{few, length-bytes, body-cut, body-named, body-misnamed}
-use Rattle.table.proofs.Writing.{entries, Sound, Each, each-get, Whole, Stopped, of-accepted, of-refused, read-past, whole-accepted}
+use Rattle.table.specs.Entries.{predicateLimit, rowLimit, questionLimit, blank, bytesOf, uses, usedBy, noRoom, limit, numberAt, named, bodyStep, unless, stepBy, stepOf}
+use Rattle.table.specs.Reading.{Contents, none, accepted, refused, after, readOn, reading, predicates, written}
+use Rattle.table.proofs.OneEntry.{few, length-bytes, body-cut}
+use Rattle.table.proofs.Writing.{entries, Sound, Each, each-get, Stopped, of-accepted, of-refused, read-past, whole-accepted}
 
 -- an entry has at most three bytes
 written-short : (es : List Entry) → length (written es) ≤ 3 * length es

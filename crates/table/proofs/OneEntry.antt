@@ -1,20 +1,19 @@
 -- Laws of one entry: its size, its bytes in an output, and what a step says of the bytes.
 -- Assumes nothing.
-use mathlib.Core.Path.{_≡_, refl, sym, ap, _∙_}
-use mathlib.Core.Bool.{Bool, true, false, cond}
+use mathlib.Core.Path.{_≡_, refl, ap, _∙_}
+use mathlib.Core.Bool.{Bool, true, false}
 use mathlib.Core.List.{List, [], _∷_, _++_}
 use Prim.Native.Nat.{ℕ, zero, suc, _+_, _-_, _≤_, _<_}
 use native.Mathlib.Omega.{arith}
-use lib.ListN.{length, getD, take, drop, set, length-drop}
+use lib.ListN.{length, take, drop, set}
 use borrow.Author.Tests.{lt-ltb, le-ltb, le-leb, lt-leb}
 use Rattle.table.specs.declared.kinds.Kind.{Kind}
 use Rattle.table.specs.declared.kinds.Kind.the-variants.{Always, DenyIf, GrantIf, One, Two, Compare, Not, Both}
-use Rattle.table.specs.declared.kinds.Announced.the-variants.{Listed}
 use Rattle.table.specs.declared.entries.Entry.{Entry}
 use Rattle.table.specs.declared.entries.Step.{Step}
-use Rattle.table.specs.declared.entries.Step.the-variants.{Row, Question, Bad}
+use Rattle.table.specs.declared.entries.Step.the-variants.{Bad}
 use Rattle.table.specs.Kinds.{byteOf, formOf}
-use Rattle.table.specs.Entries.{numbersOf, bytesOf, noRoom, limit, misnamed, numberAt, named, placed, bodyStep, unless, stepBy, over}
+use Rattle.table.specs.Entries.{numbersOf, bytesOf, limit, misnamed, numberAt, named, placed, bodyStep, unless, over}
 
 -- a body has at most two numbers, and an entry one byte more than its body
 pub few : (k : Kind) → formOf k .numbers < 3

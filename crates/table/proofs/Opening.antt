@@ -1,11 +1,10 @@
 -- What a service knows once it has opened a reading.
 -- Assumes nothing.
-use mathlib.Core.Path.{_≡_, refl, sym, ap, _∙_}
+use mathlib.Core.Path.{_≡_, refl, ap}
 use mathlib.Core.List.{List}
 use Prim.Native.Nat.{ℕ}
 use native.Mathlib.Omega.{arith}
 use Rattle.table.specs.declared.Reading.{Reading}
-use Rattle.table.specs.declared.Outcome.{Outcome}
 use Rattle.table.specs.declared.Outcome.the-variants.{Read, Refused}
 use Rattle.table.specs.Reading.{Contents, Result, accepted, refused, reading, tableOf, shown}
 use Rattle.table.proofs.Writing.{Whole, of-accepted}

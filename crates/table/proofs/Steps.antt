@@ -1,11 +1,10 @@
 -- What a step says of the bytes that it was taken from, and the step that an entry's own bytes bring.
 -- Assumes nothing.
-use mathlib.Core.Path.{_≡_, refl, sym, ap, _∙_}
+use mathlib.Core.Path.{_≡_, refl}
 use mathlib.Core.Bool.{Bool, true, false, cond}
-use mathlib.Core.List.{List, [], _∷_, _++_}
-use Prim.Native.Nat.{ℕ, zero, suc, _+_, _-_, _≤_, _<_}
-use native.Mathlib.Omega.{arith}
-use lib.ListN.{length, getD, take, drop}
+use mathlib.Core.List.{List}
+use Prim.Native.Nat.{ℕ, zero, suc, _-_, _≤_}
+use lib.ListN.{length}
 use lib.Dec.{ltb}
 use borrow.Author.Tests.{ltb-true, ltb-false}
 use Rattle.table.specs.declared.kinds.Kind.{Kind}
@@ -15,9 +14,9 @@ use Rattle.table.specs.declared.entries.Entry.{Entry}
 use Rattle.table.specs.declared.entries.Step.{Step}
 use Rattle.table.specs.declared.entries.Step.the-variants.{Row, Question, Bad}
 use Rattle.table.specs.Kinds.{byteOf, kindOf, formOf}
-use Rattle.table.specs.Entries.{isRow, numbersOf, noRoom, limit, misnamed, numberAt, named, placed, bodyStep, unless, stepBy, stepOf}
-use Rattle.table.proofs.KindTable.{byte-of-kind, kind-of-byte}
-use Rattle.table.proofs.OneEntry.{few, body-cut, body-named, body-misnamed, unless-none, unless-some}
+use Rattle.table.specs.Entries.{isRow, numbersOf, noRoom, limit, numberAt, named, placed, bodyStep, unless, stepBy, stepOf}
+use Rattle.table.proofs.KindTable.{byte-of-kind}
+use Rattle.table.proofs.OneEntry.{body-cut, body-named, body-misnamed}
 
 -- what a table with so many rows and questions must allow of an entry
 pub record Allowed (rows questions : ℕ) (e : Entry) : Type 0 where

@@ -6,7 +6,7 @@ use mathlib.Core.List.{List, [], _∷_, _++_}
 use Prim.Native.Nat.{ℕ, zero, suc, _+_, _-_, _≤_, _<_, max}
 use native.Mathlib.Omega.{arith}
 use native.Mathlib.Numerals.{add-one}
-use lib.ListN.{length, getD, take, drop, set, length-append, length-drop, drop-of-length-le}
+use lib.ListN.{length, getD, drop, set, length-append, length-drop, drop-of-length-le}
 use lib.Seq.{drop-cons, drop-drop}
 use lib.Dec.{ltb}
 use borrow.Author.Tests.{ltb-true, ltb-false, lt-ltb}
@@ -17,7 +17,7 @@ use Rattle.table.specs.declared.Table.{Table}
 use Rattle.table.specs.Entries.{blank, uses, numbersOf, rowLimit, questionLimit, stepOf, noRoom}
 use Rattle.table.specs.Reading.{Contents, none, withRow, withQuestion, Result, accepted, refused, after, readOn, reading, predicates, tableOf}
 use Rattle.table.proofs.Padding.{padded-more}
-use Rattle.table.proofs.Steps.{Took, Said, said-of}
+use Rattle.table.proofs.Steps.{said-of}
 
 -- how many entries more are looked for does not matter, once there are as many as bytes
 after-same : (s : Step) (c : Contents) (at : ℕ) (f g : ℕ → Contents → Result) → ((n : ℕ) (c : Contents) → f n c ≡ g n c) → after s c at f ≡ after s c at g

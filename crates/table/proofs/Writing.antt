@@ -6,21 +6,19 @@ use mathlib.Core.Bool.{Bool, true, false, cond}
 use mathlib.Core.List.{List, [], _∷_, _++_, append-assoc, append-nil}
 use Prim.Native.Nat.{ℕ, zero, suc, _+_, _-_, _≤_, _<_}
 use native.Mathlib.Omega.{arith}
-use native.Mathlib.Numerals.{add-one}
 use lib.ListN.{length, getD, take, drop, length-append, length-drop, take-append-drop}
 use lib.Seq.{drop-at}
 use lib.Dec.{ltb}
-use Rattle.table.specs.declared.kinds.Announced.the-variants.{Listed}
 use Rattle.table.specs.declared.entries.Entry.{Entry}
 use Rattle.table.specs.declared.entries.Step.{Step}
 use Rattle.table.specs.declared.entries.Step.the-variants.{Row, Question, Bad}
-use Rattle.table.specs.Kinds.{byteOf, kindOf, formOf}
-use Rattle.table.specs.Entries.{blank, isRow, numbersOf, bytesOf, rowLimit, questionLimit, noRoom, limit, numberAt, named, placed, stepBy, stepOf}
+use Rattle.table.specs.Kinds.{byteOf, formOf}
+use Rattle.table.specs.Entries.{isRow, numbersOf, bytesOf, rowLimit, questionLimit, limit, numberAt, named, placed, stepBy, stepOf}
 use Rattle.table.specs.Reading.{Contents, none, withRow, withQuestion, Result, accepted, refused, after, readOn, reading, written}
 use Rattle.table.proofs.KindTable.{kind-of-byte}
 use Rattle.table.proofs.OneEntry.{few, length-front, length-bytes, body-named, unless-none}
-use Rattle.table.proofs.Steps.{Allowed, Took, Said, said-of}
-use Rattle.table.proofs.Turns.{enough, Room, room-of, room-for, read-none}
+use Rattle.table.proofs.Steps.{Allowed, Took, said-of}
+use Rattle.table.proofs.Turns.{enough, room-of, room-for, read-none}
 
 -- the entries of a table in order
 abbrev pub entries : Contents → List Entry

@@ -1,6 +1,6 @@
 -- The table of kinds (01, "The table, byte by byte").
 use Prim.Native.Nat.{ℕ}
-use mathlib.Core.Bool.{Bool, true, false, cond}
+use mathlib.Core.Bool.{true, false, cond}
 use mathlib.Core.List.{List, [], _∷_}
 use lib.Dec.{eqb}
 use Rattle.belnap.specs.declared.Decision.the-variants.{U, D, G, C}

@@ -1,15 +1,12 @@
 -- A table as it is read, entry by entry from the front (01, "The table, byte by byte" and "When we say no").
 use Prim.Native.Nat.{ℕ, zero, suc, _+_, _-_, max}
-use mathlib.Core.Bool.{Bool, true, false, cond}
 use mathlib.Core.List.{List, [], _∷_, _++_}
-use lib.ListN.{length, getD, take, drop, replicate}
-use lib.Dec.{ltb}
+use lib.ListN.{length, drop, replicate}
 use Rattle.table.specs.declared.entries.Entry.{Entry}
 use Rattle.table.specs.declared.entries.Step.{Step}
 use Rattle.table.specs.declared.entries.Step.the-variants.{Row, Question, Bad}
 use Rattle.table.specs.declared.Table.{Table}
 use Rattle.table.specs.declared.Reading.{Reading}
-use Rattle.table.specs.declared.Outcome.{Outcome}
 use Rattle.table.specs.declared.Outcome.the-variants.{Read, Refused}
 use Rattle.table.specs.Entries.{rowLimit, questionLimit, blank, uses, numbersOf, bytesOf, stepOf}
 

@@ -4,7 +4,7 @@ use crate::kinds::Announced;
 use crate::kinds::Kind;
 use crate::kinds::Names;
 ghost use mathlib.Core.Path.{_≡_};
-ghost use Prim.Native.Nat.{_+_, _-_, _≤_, _<_};
+ghost use Prim.Native.Nat.{_+_, _-_, _<_};
 ghost use lib.ListN.{length, getD, drop};
 ghost use Rattle.table.specs.Entries.{numbersOf, uses, bytesOf, noRoom, limit, misnamed, numberAt, namedAt, placed, bodyStep, stepBy, stepOf, over};
 

@@ -10,7 +10,6 @@ use crate::kinds::Kind;
 use belnap::Decision;
 ghost use mathlib.Core.Path.{_≡_};
 ghost use Prim.Native.Nat.{max};
-ghost use Prim.Native.Nat.{max};
 ghost use Rattle.table.specs.Reading.{none, reading, tableOf, shown, refused as refusedResult};
 
 // A table just read: its rows and its questions in order, how many there are of each, and 01's n.

@@ -34,6 +34,7 @@ fn missing(outcome: Outcome) -> Place
     ensures { λ r. ⌜ r ≡ missingOf outcome ⌝ }
 {
     match outcome {
+        // no refusal: never passed on
         Outcome::Read => Place::Missing(0, 0),
         Outcome::Refused(number, place) => Place::Missing(number, place),
     }

@@ -14,7 +14,7 @@ use Rattle.table.proofs.Numbers.{by-order}
 use Rattle.decide.specs.Meaning.{bit}
 use Rattle.walk.specs.declared.questions.Look.{Look}
 use Rattle.walk.specs.declared.questions.Look.the-variants.{True, False, Open}
-use Rattle.walk.specs.Questions.{truth, Truths, hasTruth, onlyTruth, truthSet, look}
+use Rattle.walk.specs.Questions.{truth, hasTruth, onlyTruth, look}
 use Rattle.walk.specs.Walk.{Found, nothing, breaking, later, orElse, visit, walkFrom, sees, walk}
 use Rattle.walk.specs.Order.{beforeFrom, comesBefore}
 use Rattle.walk.proofs.Powers.{power-positive, power-twice}

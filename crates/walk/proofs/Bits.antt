@@ -1,11 +1,11 @@
 -- Bits of facts: which predicates a visit knows, and what one fact more does.
 -- Assumes nothing.
-use mathlib.Core.Path.{_≡_, refl, sym, ap, _∙_}
-use mathlib.Core.Bool.{Bool, true, false}
-use Prim.Native.Nat.{ℕ, zero, suc, _+_, _-_, _*_, _/_, _%_, _^_, _≤_, _<_}
+use mathlib.Core.Path.{_≡_, sym, ap, _∙_}
+use mathlib.Core.Bool.{true, false}
+use Prim.Native.Nat.{ℕ, zero, suc, _+_, _-_, _/_, _%_, _^_, _≤_, _<_}
 use native.Mathlib.Omega.{arith}
-use native.Mathlib.Nat.{div-one, div-div-eq-div-mul, div-eq-of-lt, pow-succ', pow-suc, pow-le-pow-right, lt-of-lt-of-le, one-mul, two-pow-succ}
-use lib.Arith.{mod-mul, digits-div}
+use native.Mathlib.Nat.{div-one, div-div-eq-div-mul, div-eq-of-lt, pow-succ', pow-le-pow-right, lt-of-lt-of-le, one-mul, two-pow-succ}
+use lib.Arith.{digits-div}
 use lib.Dec.{eqb}
 use Rattle.decide.specs.Meaning.{bit}
 use Rattle.walk.proofs.Powers.{power-positive}

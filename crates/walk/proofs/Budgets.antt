@@ -1,7 +1,7 @@
 -- Budgets (the letter's third demand): a larger budget brings the same verdict, request and count; unfinished is given exactly if the walk makes more
 -- visits than the budget; and 2^(n+1) - 1 visits are always enough.
 -- Assumes nothing.
-use mathlib.Core.Path.{_≡_, refl, sym, ap, _∙_}
+use mathlib.Core.Path.{_≡_, sym, _∙_}
 use mathlib.Core.List.{List}
 use Prim.Native.Nat.{ℕ, zero, suc, _+_, _-_, _^_, _≤_, _<_}
 use native.Mathlib.Omega.{arith}
@@ -10,9 +10,8 @@ use Rattle.table.specs.declared.entries.Entry.{Entry}
 use Rattle.table.proofs.Numbers.{by-order}
 use Rattle.walk.specs.declared.questions.Look.{Look}
 use Rattle.walk.specs.declared.questions.Look.the-variants.{True, False, Open}
-use Rattle.walk.specs.declared.Reply.{Reply}
-use Rattle.walk.specs.declared.Reply.the-variants.{Holds, Fails, Unfinished}
-use Rattle.walk.specs.Walk.{Found, nothing, breaking, visits, later, orElse, visit, walkFrom, sees, walk, ended, replyOf}
+use Rattle.walk.specs.declared.Reply.the-variants.{Unfinished}
+use Rattle.walk.specs.Walk.{Found, nothing, breaking, visits, orElse, visit, walkFrom, sees, walk, ended, replyOf}
 use Rattle.walk.proofs.Replies.{reply-within, reply-beyond}
 
 ended-verdict : (w : Found) (c : ℕ) → ended w ≡ Unfinished c → ⊥

@@ -9,7 +9,7 @@ use Rattle.belnap.specs.declared.orders.Order.{Order}
 use Rattle.possible.specs.Sets.{Set, ofMask}
 use Rattle.possible.proofs.Masks.{low}
 use Rattle.possible.proofs.Words.{digit, spelling, spelled, table, in-table}
-use Rattle.walk.specs.declared.questions.Look.the-variants.{True, False, Open}
+use Rattle.walk.specs.declared.questions.Look.the-variants.{Open}
 use Rattle.walk.specs.Questions.{Truths, compareSet, notSet, bothSet, look, truthMask, truthsOf}
 
 pub of-truth-mask : (t : Truths) → truthsOf (truthMask t) ≡ t

@@ -2,10 +2,9 @@
 -- adds none, and with nothing unknown only the truth is left.
 -- Assumes nothing.
 use mathlib.Core.Path.{_≡_, refl, sym, ap, ap₂, _∙_}
-use mathlib.Core.Bool.{Bool, true, false, cond, not, _&&_, _||_}
+use mathlib.Core.Bool.{Bool, true, false, not, _&&_, _||_}
 use mathlib.Core.List.{List}
 use Prim.Native.Nat.{ℕ, _<_}
-use native.Mathlib.Omega.{arith}
 use lib.ListN.{getD}
 use Rattle.belnap.specs.declared.Decision.{Decision}
 use Rattle.belnap.specs.declared.orders.Order.{Order}
@@ -17,7 +16,7 @@ use Rattle.table.specs.declared.kinds.Kind.the-variants.{Always, DenyIf, GrantI
 use Rattle.table.specs.declared.entries.Entry.{Entry}
 use Rattle.table.specs.Entries.{blank}
 use Rattle.table.specs.Reading.{predicates}
-use Rattle.decide.specs.Meaning.{bit, decision}
+use Rattle.decide.specs.Meaning.{bit}
 use Rattle.decide.proofs.RowByRow.{side-by-side}
 use Rattle.decide.proofs.Independence.{beyond-n}
 use Rattle.possible.specs.Sets.{Set, has, Within, single, some}

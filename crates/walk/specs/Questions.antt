@@ -1,6 +1,5 @@
 -- A question at one request, and with facts missing (01, "The four decisions" and "Missing facts").
 use Prim.Native.Nat.{ℕ, _+_, _/_, _%_, max}
-use mathlib.Core.Path.{_≡_}
 use mathlib.Core.Bool.{Bool, true, false, cond, not, _&&_, _||_}
 use mathlib.Core.List.{List}
 use lib.ListN.{getD, take}

@@ -83,6 +83,7 @@ fn walk_from(
         Look::True => Reply::Holds(1),
         Look::False => Reply::Fails(facts, 1),
         Look::Open => {
+            // never met: at k = n every question is settled (`settled-at-n`)
             if k == n {
                 return Reply::Holds(1);
             }

@@ -9,7 +9,7 @@ ghost use mathlib.Core.Bool.{true};
 ghost use mathlib.Core.Path.{_≡_};
 ghost use mathlib.Core.List.{_++_, map};
 ghost use Prim.Native.Nat.{_+_, _*_, _≤_, _<_, max};
-ghost use lib.ListN.{length, getD, take, drop};
+ghost use lib.ListN.{length, drop};
 ghost use Rattle.table.specs.Flat.{entriesIn};
 ghost use Rattle.decide.specs.Rows.{values};
 ghost use Rattle.possible.specs.Sets.{ofMask};

@@ -1,6 +1,5 @@
 use borrow.Author.Tests.{ne-eqb}
 use Rattle.belnap.specs.Decisions.{coded}
-use borrow.Author.Needs.{needs}
 use Rattle.belnap.proofs.decision_of.Statement.{statement}
 use Rattle.belnap.proofs.decision_of.Tie as tie
 

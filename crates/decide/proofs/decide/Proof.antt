@@ -3,10 +3,9 @@ use Rattle.decide.specs.Meaning.{decides}
 use Rattle.decide.specs.Rows.{values}
 use Rattle.table.proofs.Padding.{padded-at}
 use Rattle.belnap.specs.declared.Decision.the-variants.{U}
-use borrow.Author.Tests.{lt-ltb, le-ltb, le-leb, lt-leb, eq-eqb, ne-eqb}
+use borrow.Author.Tests.{lt-ltb, le-ltb}
 use native.Mathlib.Omega.{arith}
 use Prim.Native.Nat.{_+_, _<_}
-use mathlib.Core.Path.{_≡_, refl, sym, ap, _∙_}
 use borrow.Author.Needs.{needs}
 use Rattle.decide.proofs.decide.Statement.{statement}
 use Rattle.decide.proofs.decide.Tie as tie

@@ -5,7 +5,7 @@ use Rattle.table.specs.Reading.{padded}
 use Rattle.belnap.specs.declared.Decision.the-variants.{U}
 use native.Mathlib.Omega.{arith}
 use Prim.Native.Nat.{_≤_, _-_}
-use mathlib.Core.Path.{_≡_, refl, sym, ap, _∙_}
+use mathlib.Core.Path.{_≡_, refl}
 use borrow.Author.Needs.{needs}
 use Rattle.decide.proofs.decide_below.Statement.{statement}
 use Rattle.decide.proofs.decide_below.Tie as tie

@@ -1,6 +1,6 @@
 use Prim.Native.Nat.{_≤_, _-_}
 use mathlib.Core.Path.{_≡_}
-use lib.ListN.{length, length-set}
+use lib.ListN.{length}
 use borrow.Author.Needs.{needs}
 use Rattle.notebook.proofs.one_question_more.Statement.{statement}
 use Rattle.notebook.proofs.one_question_more.Tie as tie

@@ -3,7 +3,7 @@ use Rattle.pierstride.specs.Masks.{knownBelow}
 use native.Mathlib.Omega.{arith}
 use Prim.Native.Nat.{_≤_, _-_}
 use mathlib.Core.Bool.{true}
-use mathlib.Core.Path.{_≡_, refl, sym, ap, _∙_}
+use mathlib.Core.Path.{_≡_, refl, sym}
 use borrow.Author.Needs.{needs}
 use Rattle.pierstride.proofs.all_known.Statement.{statement}
 use Rattle.pierstride.proofs.all_known.Tie as tie

@@ -4,7 +4,7 @@ use Rattle.table.proofs.Opening.{opened, turned}
 use Rattle.table.specs.Reading.{Result}
 use native.Mathlib.Omega.{arith}
 use Prim.Native.Nat.{ℕ}
-use mathlib.Core.Path.{_≡_, refl, sym, ap, _∙_}
+use mathlib.Core.Path.{_≡_, refl, sym, _∙_}
 use borrow.Author.Needs.{needs}
 use Rattle.pierstride.proofs.pier_possible.Statement.{statement}
 use Rattle.pierstride.proofs.pier_possible.Tie as tie

@@ -4,7 +4,7 @@ use Rattle.table.proofs.Opening.{opened, turned}
 use Rattle.table.proofs.Laws.{limits}
 use native.Mathlib.Omega.{arith}
 use Prim.Native.Nat.{ℕ}
-use mathlib.Core.Path.{_≡_, refl, sym, ap, _∙_}
+use mathlib.Core.Path.{_≡_, refl}
 use borrow.Author.Needs.{needs}
 use Rattle.pierstride.proofs.pier_read.Statement.{statement}
 use Rattle.pierstride.proofs.pier_read.Tie as tie

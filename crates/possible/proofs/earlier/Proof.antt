@@ -3,7 +3,7 @@ use lib.Seq.{getD-take, length-take-le}
 use lib.ListN.{length, getD, take, List·getD-eq-default}
 use native.Mathlib.Omega.{arith}
 use Prim.Native.Nat.{ℕ, _≤_, _<_}
-use mathlib.Core.Path.{_≡_, refl, sym, ap, _∙_}
+use mathlib.Core.Path.{sym, ap, _∙_}
 use borrow.Author.Needs.{needs}
 use Rattle.possible.proofs.earlier.Statement.{statement}
 use Rattle.possible.proofs.earlier.Tie as tie

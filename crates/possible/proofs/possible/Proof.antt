@@ -1,6 +1,6 @@
 use Rattle.possible.proofs.SetLoop.{row-set}
-use borrow.Author.Tests.{lt-ltb, le-ltb, le-leb, lt-leb, eq-eqb, ne-eqb}
-use mathlib.Core.Path.{_≡_, refl, sym, ap, _∙_}
+use borrow.Author.Tests.{lt-ltb, le-ltb}
+use mathlib.Core.Path.{_∙_}
 use borrow.Author.Needs.{needs}
 use Rattle.possible.proofs.possible.Statement.{statement}
 use Rattle.possible.proofs.possible.Tie as tie

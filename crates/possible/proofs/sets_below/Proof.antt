@@ -8,7 +8,7 @@ use lib.ListN.{length, drop, length-set}
 use mathlib.Core.List.{_++_, map}
 use native.Mathlib.Omega.{arith}
 use Prim.Native.Nat.{_≤_, _-_}
-use mathlib.Core.Path.{_≡_, refl, sym, ap, _∙_}
+use mathlib.Core.Path.{_≡_, refl, _∙_}
 use borrow.Author.Needs.{needs}
 use Rattle.possible.proofs.sets_below.Statement.{statement}
 use Rattle.possible.proofs.sets_below.Tie as tie

@@ -1,6 +1,6 @@
 use Rattle.walk.proofs.QuestionLoop.{run-walk}
 use Rattle.walk.specs.Walk.{replyOf}
-use mathlib.Core.Path.{_≡_, refl, sym, ap, _∙_}
+use mathlib.Core.Path.{ap, _∙_}
 use borrow.Author.Needs.{needs}
 use Rattle.walk.proofs.verdict.Statement.{statement}
 use Rattle.walk.proofs.verdict.Tie as tie

@@ -1,7 +1,7 @@
 use Rattle.walk.proofs.QuestionLoop.{visit-sees}
 use Rattle.walk.proofs.Powers.{power-positive, power-shifted}
 use Prim.Native.Nat.{ℕ, _-_}
-use mathlib.Core.Path.{_≡_, refl, sym, ap, _∙_}
+use mathlib.Core.Path.{ap, _∙_}
 use borrow.Author.Needs.{needs}
 use Rattle.walk.proofs.visit.Statement.{statement}
 use Rattle.walk.proofs.visit.Tie as tie

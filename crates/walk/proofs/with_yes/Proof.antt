@@ -1,6 +1,5 @@
 use Rattle.walk.proofs.Powers.{power-small, power-shifted, power-twice}
 use native.Mathlib.Omega.{arith}
-use mathlib.Core.Path.{_≡_, refl}
 use borrow.Author.Needs.{needs}
 use Rattle.walk.proofs.with_yes.Statement.{statement}
 use Rattle.walk.proofs.with_yes.Tie as tie

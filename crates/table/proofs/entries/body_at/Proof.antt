@@ -1,9 +1,9 @@
 use Rattle.table.proofs.OneEntry.{body-cut, body-named, body-misnamed}
 use Rattle.table.specs.Kinds.{formOf}
-use lib.ListN.{length, getD, take, drop, length-drop}
+use lib.ListN.{length, drop, length-drop}
 use native.Mathlib.Omega.{arith}
-use Prim.Native.Nat.{ℕ, zero, suc, _≤_, _<_, _-_, _+_}
-use mathlib.Core.Path.{_≡_, refl, sym, ap, _∙_}
+use Prim.Native.Nat.{_≤_, _<_, _-_, _+_}
+use mathlib.Core.Path.{sym, _∙_}
 use borrow.Author.Needs.{needs}
 use Rattle.table.proofs.entries.body_at.Statement.{statement}
 use Rattle.table.proofs.entries.body_at.Tie as tie

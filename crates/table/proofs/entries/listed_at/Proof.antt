@@ -1,6 +1,6 @@
 use Rattle.table.proofs.OneEntry.{unless-none, unless-some}
 use Rattle.table.specs.Entries.{stepBy}
-use mathlib.Core.Path.{_≡_, refl, sym, ap, _∙_}
+use mathlib.Core.Path.{sym, _∙_}
 use borrow.Author.Needs.{needs}
 use Rattle.table.proofs.entries.listed_at.Statement.{statement}
 use Rattle.table.proofs.entries.listed_at.Tie as tie

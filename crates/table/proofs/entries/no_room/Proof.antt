@@ -1,6 +1,5 @@
-use borrow.Author.Tests.{lt-ltb, le-ltb, le-leb, lt-leb, eq-eqb, ne-eqb}
+use borrow.Author.Tests.{lt-ltb, le-ltb}
 use Rattle.table.specs.Entries.{noRoom}
-use borrow.Author.Needs.{needs}
 use Rattle.table.proofs.entries.no_room.Statement.{statement}
 use Rattle.table.proofs.entries.no_room.Tie as tie
 

@@ -1,5 +1,5 @@
 use lib.Seq.{getD-drop}
-use borrow.Author.Tests.{lt-ltb, le-ltb, le-leb, lt-leb, eq-eqb, ne-eqb}
+use borrow.Author.Tests.{lt-ltb, le-ltb}
 use borrow.Author.Needs.{needs}
 use Rattle.table.proofs.entries.number_at.Statement.{statement}
 use Rattle.table.proofs.entries.number_at.Tie as tie

@@ -1,7 +1,7 @@
-use mathlib.Core.Path.{_≡_, refl, sym, ap, _∙_}
-use Prim.Native.Nat.{_≤_, _<_}
+use mathlib.Core.Path.{_≡_, sym, _∙_}
+use Prim.Native.Nat.{_<_}
 use native.Mathlib.Omega.{arith}
-use lib.ListN.{length, length-set}
+use lib.ListN.{length-set}
 use Rattle.table.specs.Entries.{numbersOf}
 use Rattle.table.proofs.OneEntry.{length-bytes, over-short, put-none, put-one, put-two}
 use borrow.Author.Needs.{needs}

@@ -3,7 +3,7 @@ use Rattle.table.specs.Flat.{upTo, flat}
 use Rattle.table.specs.Reading.{padded}
 use native.Mathlib.Omega.{arith}
 use Prim.Native.Nat.{_≤_, _-_}
-use mathlib.Core.Path.{_≡_, refl, sym, ap, _∙_}
+use mathlib.Core.Path.{_≡_, refl}
 use borrow.Author.Needs.{needs}
 use Rattle.table.proofs.flat.flat_questions.Statement.{statement}
 use Rattle.table.proofs.flat.flat_questions.Tie as tie

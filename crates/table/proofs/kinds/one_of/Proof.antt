@@ -1,7 +1,6 @@
 use Rattle.table.specs.Kinds.{kindOf}
 use native.Mathlib.Omega.{arith}
 use mathlib.Core.Path.{_≡_}
-use borrow.Author.Needs.{needs}
 use Rattle.table.proofs.kinds.one_of.Statement.{statement}
 use Rattle.table.proofs.kinds.one_of.Tie as tie
 

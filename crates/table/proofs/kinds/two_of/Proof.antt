@@ -3,7 +3,6 @@ use Prim.Native.Nat.{ℕ, _≤_, _<_}
 use Rattle.table.specs.Kinds.{kindOf}
 use native.Mathlib.Omega.{arith}
 use mathlib.Core.Path.{_≡_}
-use borrow.Author.Needs.{needs}
 use Rattle.table.proofs.kinds.two_of.Statement.{statement}
 use Rattle.table.proofs.kinds.two_of.Tie as tie
 

@@ -1,6 +1,6 @@
 use native.Mathlib.Omega.{arith}
 use Rattle.table.proofs.RowPart.{at-part, missing-part}
-use mathlib.Core.Path.{_≡_, refl, sym, ap, _∙_}
+use mathlib.Core.Path.{sym, _∙_}
 use borrow.Author.Needs.{needs}
 use Rattle.table.proofs.lookup.entry.Statement.{statement}
 use Rattle.table.proofs.lookup.entry.Tie as tie

@@ -1,5 +1,5 @@
 use Rattle.table.proofs.RowPart.{at-of, at-entry, missing-bytes}
-use mathlib.Core.Path.{_≡_, refl, sym, ap, _∙_}
+use mathlib.Core.Path.{sym, _∙_}
 use borrow.Author.Needs.{needs}
 use Rattle.table.proofs.lookup.entry_outcome.Statement.{statement}
 use Rattle.table.proofs.lookup.entry_outcome.Tie as tie

@@ -8,10 +8,10 @@ use Rattle.table.specs.Entries.{blank, rowLimit, numbersOf}
 use Rattle.table.specs.declared.entries.Entry.{Entry}
 use Rattle.table.specs.declared.Table.{Table}
 use lib.ListN.{length, getD, take}
-use borrow.Author.Tests.{lt-ltb, le-ltb, le-leb, lt-leb, eq-eqb, ne-eqb}
+use borrow.Author.Tests.{le-ltb}
 use native.Mathlib.Omega.{arith}
-use Prim.Native.Nat.{ℕ, zero, suc, _≤_, _<_, _-_, _+_}
-use mathlib.Core.Path.{_≡_, refl, sym, ap, _∙_}
+use Prim.Native.Nat.{ℕ, _-_}
+use mathlib.Core.Path.{_≡_, sym, ap, _∙_}
 use borrow.Author.Needs.{needs}
 use Rattle.table.proofs.lookup.find.Statement.{statement}
 use Rattle.table.proofs.lookup.find.Tie as tie

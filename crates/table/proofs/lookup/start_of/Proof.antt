@@ -2,8 +2,8 @@ use Rattle.table.proofs.RowPart.{start-more}
 use Rattle.table.specs.Reading.{written}
 use lib.ListN.{length, take}
 use native.Mathlib.Omega.{arith}
-use Prim.Native.Nat.{ℕ, _≤_, _<_, _-_, _+_, _*_}
-use mathlib.Core.Path.{_≡_, refl, sym, ap, _∙_}
+use Prim.Native.Nat.{_≤_, _-_, _*_}
+use mathlib.Core.Path.{_≡_, sym}
 use borrow.Author.Needs.{needs}
 use Rattle.table.proofs.lookup.start_of.Statement.{statement}
 use Rattle.table.proofs.lookup.start_of.Tie as tie

@@ -3,7 +3,6 @@ use Rattle.walk.specs.Questions.{truthsOf}
 use native.Mathlib.Omega.{arith}
 use Prim.Native.Nat.{_%_}
 use mathlib.Core.Path.{refl, sym, _∙_}
-use borrow.Author.Needs.{needs}
 use Rattle.walk.proofs.questions.look_of.Statement.{statement}
 use Rattle.walk.proofs.questions.look_of.Tie as tie
 

@@ -5,10 +5,10 @@ use Rattle.decide.specs.Rows.{values}
 use Rattle.table.proofs.Runs.{held-at, held-small}
 use Rattle.table.specs.Flat.{entriesIn}
 use Rattle.table.specs.Reading.{padded}
-use lib.ListN.{length, getD}
+use lib.ListN.{getD}
 use native.Mathlib.Omega.{arith}
-use Prim.Native.Nat.{ℕ, _≤_, _<_, _-_, _+_}
-use mathlib.Core.Path.{_≡_, refl, sym, ap, _∙_}
+use Prim.Native.Nat.{_≤_, _-_, _+_}
+use mathlib.Core.Path.{_≡_, refl, _∙_}
 use borrow.Author.Needs.{needs}
 use Rattle.walk.proofs.questions.top_of.Statement.{statement}
 use Rattle.walk.proofs.questions.top_of.Tie as tie

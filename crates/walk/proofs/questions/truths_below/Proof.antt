@@ -7,7 +7,7 @@ use mathlib.Core.List.{_++_, map}
 use mathlib.Core.Bool.{true}
 use native.Mathlib.Omega.{arith}
 use Prim.Native.Nat.{_≤_, _-_}
-use mathlib.Core.Path.{_≡_, refl, sym, ap, _∙_}
+use mathlib.Core.Path.{_≡_, refl, _∙_}
 use borrow.Author.Needs.{needs}
 use Rattle.walk.proofs.questions.truths_below.Statement.{statement}
 use Rattle.walk.proofs.questions.truths_below.Tie as tie
