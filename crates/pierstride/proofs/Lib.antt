@@ -2,3 +2,4 @@
 pub mod KnownMasks
 pub mod Serving
 pub mod Unique
+pub mod Demands
