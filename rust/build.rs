@@ -1,9 +1,9 @@
-//! Links `libpierstride.a` from the directory that `PIERSTRIDE_LIB` names.
+//! Links `libpierstride.a` from the directory that `PIERSTRIDE_LIB` names, or else from where `rt staticlib pierstride` puts it.
 
 fn main() {
     println!("cargo:rerun-if-env-changed=PIERSTRIDE_LIB");
     let directory = std::env::var("PIERSTRIDE_LIB")
-        .expect("PIERSTRIDE_LIB must name the directory that holds libpierstride.a");
+        .unwrap_or_else(|_| concat!(env!("CARGO_MANIFEST_DIR"), "/../target/staticlib").to_string());
     println!("cargo:rerun-if-changed={directory}/libpierstride.a");
     println!("cargo:rustc-link-search=native={directory}");
     println!("cargo:rustc-link-lib=static=pierstride");

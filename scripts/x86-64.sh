@@ -1,8 +1,8 @@
 # Sourced by the other scripts: the tools that build and run x86-64 programs here.
 #
-# On an x86-64 machine these are the installed ones. On an Arm machine programs
-# are cross-compiled with Debian's packages, which are installed if missing, and
-# run under an emulator. A time measured under an emulator is no speed.
+# On an x86-64 machine these are the machine's own. On an Arm machine programs
+# are cross-compiled with Debian's packages and run under an emulator; a time
+# measured under an emulator is no speed. What is missing is installed.
 
 # give_up REASON: ends a script that cannot begin.
 give_up() {
@@ -11,11 +11,22 @@ give_up() {
     exit 1
 }
 
+# get PACKAGE..: Debian packages, as root.
+get() {
+    apt-get update
+    apt-get install -y --no-install-recommends "$@"
+}
+
 root=$(cd "$(dirname "${BASH_SOURCE[0]}")/.." && pwd)
 library=$root/target/staticlib
 
 case $(uname -m) in
 x86_64)
+    missing=()
+    command -v cargo >/dev/null || missing+=(rustc cargo)
+    command -v gcc >/dev/null || missing+=(gcc libc6-dev)
+    command -v g++ >/dev/null || missing+=(g++)
+    [[ ${#missing[@]} -eq 0 ]] || get "${missing[@]}"
     cargo=(cargo)
     cargo_options=()
     cc=gcc
@@ -27,8 +38,7 @@ aarch64)
         g++-x86-64-linux-gnu libc6-dev-amd64-cross qemu-user)
     if ! dpkg -s "${packages[@]}" >/dev/null 2>&1; then
         dpkg --add-architecture amd64
-        apt-get update
-        apt-get install -y --no-install-recommends "${packages[@]}"
+        get "${packages[@]}"
     fi
     cc=x86_64-linux-gnu-gcc
     cxx=x86_64-linux-gnu-g++

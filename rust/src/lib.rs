@@ -7,7 +7,7 @@
 //!
 //! The functions call the static library `libpierstride.a`, which the build
 //! looks for in the directory that the environment variable `PIERSTRIDE_LIB`
-//! names. They do not panic.
+//! names, or else in the repository's `target/staticlib`. They do not panic.
 //!
 //! ```
 //! use pierstride::{decide, possible, verdict, Decision, Verdict};

@@ -25,8 +25,8 @@ use Rattle.pierstride.specs.declared.Located.{Located}
 use Rattle.pierstride.specs.declared.Closed.{Closed}
 use Rattle.pierstride.specs.Services.{countsOf, decidedOf, remainingOf, verdictOf, locatedOf, closedOf}
 
--- a promise of the form `answer ≡ definition`
-one : {A : Type 0} (x a b : A) → a ≡ x → b ≡ x → a ≡ b
+-- a promise of the form `answer ≡ definition`, as every public function of every crate has it; below, for the calls that take a table
+pub one : {A : Type 0} (x a b : A) → a ≡ x → b ≡ x → a ≡ b
 one x a b p q = p ∙ sym q
 
 -- the exported services
