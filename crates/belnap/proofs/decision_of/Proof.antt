@@ -1,3 +1,4 @@
+-- That `decision_of` (src/lib.rt) keeps its promise.
 use borrow.Author.Tests.{ne-eqb}
 use Rattle.belnap.specs.Decisions.{coded}
 use Rattle.belnap.proofs.decision_of.Statement.{statement}

@@ -1,3 +1,4 @@
+-- That `bit_of` (src/lib.rt) keeps its promise.
 use Rattle.decide.specs.Meaning.{bit}
 use native.Mathlib.Nat.{div-eq-of-lt, pow-le-pow-right, lt-of-lt-of-le}
 use Prim.Native.Nat.{_<_, _/_, _^_}

@@ -1,3 +1,4 @@
+-- That `decide` (src/lib.rt) keeps its promise.
 use Rattle.decide.proofs.RowByRow.{before-there}
 use Rattle.decide.specs.Meaning.{decides}
 use Rattle.decide.specs.Rows.{values}

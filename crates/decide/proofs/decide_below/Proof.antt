@@ -1,3 +1,4 @@
+-- That `decide_below` (src/lib.rt) keeps its promise.
 use Rattle.decide.proofs.RowByRow.{turn}
 use Rattle.decide.specs.Meaning.{decides}
 use Rattle.decide.specs.Rows.{values}

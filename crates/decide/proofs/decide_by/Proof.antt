@@ -1,3 +1,4 @@
+-- That `decide_by` (src/lib.rt) keeps its promise.
 use Rattle.decide.specs.Meaning.{decideBy}
 use borrow.Author.Needs.{needs}
 use Rattle.decide.proofs.decide_by.Statement.{statement}

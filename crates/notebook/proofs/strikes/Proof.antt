@@ -1,3 +1,4 @@
+-- That `strikes` (src/main.rt) ends, and stays within its bounds.
 use Prim.Native.Nat.{_≤_, _-_}
 use mathlib.Core.Path.{_≡_}
 use lib.ListN.{length}

@@ -1,3 +1,4 @@
+-- That `all_known` (src/lib.rt) keeps its promise.
 use Rattle.pierstride.proofs.KnownMasks.{known-more, known-never}
 use Rattle.pierstride.specs.Masks.{knownBelow}
 use native.Mathlib.Omega.{arith}

@@ -1,3 +1,4 @@
+-- That `masks_bad` (src/lib.rt) keeps its promise.
 use borrow.Author.Needs.{needs}
 use Rattle.pierstride.proofs.masks_bad.Statement.{statement}
 use Rattle.pierstride.proofs.masks_bad.Tie as tie

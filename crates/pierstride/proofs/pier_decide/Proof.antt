@@ -1,3 +1,4 @@
+-- That `pier_decide` (src/lib.rt) keeps its promise.
 use Rattle.pierstride.proofs.Serving.{passed-on, decided-missing, decided-beyond, decided-answer}
 use Rattle.pierstride.specs.Services.{refusedDecided, decidedOf}
 use Rattle.table.proofs.Opening.{opened, turned}

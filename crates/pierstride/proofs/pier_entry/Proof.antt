@@ -1,3 +1,4 @@
+-- That `pier_entry` (src/lib.rt) keeps its promise.
 use borrow.Author.Needs.{needs}
 use Rattle.pierstride.proofs.pier_entry.Statement.{statement}
 use Rattle.pierstride.proofs.pier_entry.Tie as tie

@@ -1,3 +1,4 @@
+-- That `pier_possible` (src/lib.rt) keeps its promise.
 use Rattle.pierstride.proofs.Serving.{passed-on, set-missing, set-beyond, set-answer}
 use Rattle.pierstride.specs.Services.{refusedRemaining, remainingOf}
 use Rattle.table.proofs.Opening.{opened, turned}

@@ -1,3 +1,4 @@
+-- That `pier_read` (src/lib.rt) keeps its promise.
 use Rattle.pierstride.proofs.Serving.{passed-on, used-is, asked-is, predicates-is, counts-answer}
 use Rattle.pierstride.specs.Services.{countsOf, refusedCounts}
 use Rattle.table.proofs.Opening.{opened, turned}

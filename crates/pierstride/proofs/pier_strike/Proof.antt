@@ -1,3 +1,4 @@
+-- That `pier_strike` (src/lib.rt) keeps its promise.
 use borrow.Author.Needs.{needs}
 use Rattle.pierstride.proofs.pier_strike.Statement.{statement}
 use Rattle.pierstride.proofs.pier_strike.Tie as tie

@@ -1,3 +1,4 @@
+-- That `pier_verdict` (src/lib.rt) keeps its promise.
 use Rattle.pierstride.proofs.Serving.{passed-on, verdict-missing, verdict-fits, verdict-answer}
 use Rattle.pierstride.specs.Services.{refusedVerdict, verdictOf}
 use Rattle.table.proofs.Opening.{opened, turned}

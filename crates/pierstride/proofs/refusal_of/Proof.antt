@@ -1,3 +1,4 @@
+-- That `refusal_of` (src/lib.rt) keeps its promise.
 use borrow.Author.Needs.{needs}
 use Rattle.pierstride.proofs.refusal_of.Statement.{statement}
 use Rattle.pierstride.proofs.refusal_of.Tie as tie

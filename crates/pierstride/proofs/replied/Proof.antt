@@ -1,3 +1,4 @@
+-- That `replied` (src/lib.rt) keeps its promise.
 use borrow.Author.Needs.{needs}
 use Rattle.pierstride.proofs.replied.Statement.{statement}
 use Rattle.pierstride.proofs.replied.Tie as tie

@@ -1,3 +1,4 @@
+-- That `earlier` (src/lib.rt) keeps its promise.
 use Rattle.decide.proofs.RowByRow.{getD-any}
 use lib.Seq.{getD-take, length-take-le}
 use lib.ListN.{length, getD, take, List·getD-eq-default}

@@ -1,3 +1,4 @@
+-- That `fact_set` (src/lib.rt) keeps its promise.
 use Rattle.possible.specs.Possible.{factSet}
 use borrow.Author.Needs.{needs}
 use Rattle.possible.proofs.fact_set.Statement.{statement}

@@ -1,3 +1,4 @@
+-- That `possible` (src/lib.rt) keeps its promise.
 use Rattle.possible.proofs.SetLoop.{row-set}
 use borrow.Author.Tests.{lt-ltb, le-ltb}
 use mathlib.Core.Path.{_∙_}

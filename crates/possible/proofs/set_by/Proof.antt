@@ -1,3 +1,4 @@
+-- That `set_by` (src/lib.rt) keeps its promise.
 use Rattle.possible.specs.Possible.{setBy}
 use borrow.Author.Needs.{needs}
 use Rattle.possible.proofs.set_by.Statement.{statement}

@@ -1,3 +1,4 @@
+-- That `sets_below` (src/lib.rt) keeps its promise.
 use Rattle.possible.proofs.SetLoop.{set-turn}
 use Rattle.possible.specs.Possible.{setOf}
 use Rattle.possible.specs.Sets.{single, mask}

@@ -1,3 +1,4 @@
+-- That `is_at` (src/lib.rt) keeps its promise.
 use Prim.Native.Nat.{ℕ}
 use mathlib.Core.Path.{ap}
 use lib.Dec.{eqb}

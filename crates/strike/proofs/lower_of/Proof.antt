@@ -1,3 +1,4 @@
+-- That `lower_of` (src/lib.rt) keeps its promise.
 use Rattle.strike.proofs.Renumbering.{lower-above, lower-below}
 use native.Mathlib.Omega.{arith}
 use mathlib.Core.Path.{sym}

@@ -1,3 +1,4 @@
+-- That `lowered_of` (src/lib.rt) keeps its promise.
 use Rattle.strike.specs.Strike.{loweredBy}
 use Rattle.table.specs.declared.kinds.Names.{Names}
 use Rattle.table.specs.declared.kinds.Form.{Form}

@@ -1,3 +1,4 @@
+-- That `named` (src/lib.rt) keeps its promise.
 use mathlib.Core.Path.{_≡_, refl, sym, ap, _∙_}
 use mathlib.Core.Bool.{false}
 use Prim.Native.Nat.{_≤_, _<_, _-_}

@@ -1,3 +1,4 @@
+-- That `names_row` (src/lib.rt) keeps its promise.
 use Rattle.strike.specs.Strike.{isAt, namesBy}
 use Rattle.table.specs.declared.kinds.Names.{Names}
 use Rattle.table.specs.declared.kinds.Form.{Form}

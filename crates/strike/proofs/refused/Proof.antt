@@ -1,3 +1,4 @@
+-- That `refused` (src/lib.rt) keeps its promise.
 use borrow.Author.Needs.{needs}
 use Rattle.strike.proofs.refused.Statement.{statement}
 use Rattle.strike.proofs.refused.Tie as tie

@@ -1,3 +1,4 @@
+-- That `strike` (src/lib.rt) keeps its promise.
 use Rattle.strike.proofs.Answering.{turned-answers, open-fits, missing-answers, named-answers, bytes-left, short-answers, written-answers}
 use Rattle.table.proofs.Opening.{opened, turned}
 use native.Mathlib.Omega.{arith}

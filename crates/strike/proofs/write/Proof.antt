@@ -1,3 +1,4 @@
+-- That `write` (src/lib.rt) keeps its promise.
 use mathlib.Core.Path.{refl}
 use mathlib.Core.Logic.{⊎-elim}
 use Prim.Native.Nat.{_≤_, _<_, _-_}

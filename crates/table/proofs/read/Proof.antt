@@ -1,3 +1,4 @@
+-- That `read` (src/lib.rt) keeps its promise.
 use Rattle.table.specs.declared.entries.Step.the-variants.{Row, Question}
 use Rattle.table.specs.Entries.{rowLimit, questionLimit, numbersOf, stepOf}
 use Rattle.table.proofs.Turns.{At, start, row-room, row-turn, question-room, question-turn, bad, done}

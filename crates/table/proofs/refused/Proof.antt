@@ -1,3 +1,4 @@
+-- That `refused` (src/lib.rt) keeps its promise.
 use Rattle.table.specs.Reading.{shown}
 use borrow.Author.Needs.{needs}
 use Rattle.table.proofs.refused.Statement.{statement}

@@ -1,3 +1,4 @@
+-- That `print_verdicts` (src/main.rt) ends, and stays within its bounds.
 use Prim.Native.Nat.{_≤_, _-_}
 use borrow.Author.Needs.{needs}
 use Rattle.verdicts.proofs.print_verdicts.Statement.{statement}

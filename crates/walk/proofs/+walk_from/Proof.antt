@@ -1,3 +1,4 @@
+-- That `walk_from` (src/lib.rt) keeps its promise.
 use Rattle.walk.proofs.Powers.{power-twice}
 use Rattle.walk.proofs.Replies.{count-of, held-count, no-budget, settled-true, settled-false, none-left, first-ends, second-ends}
 use Rattle.walk.specs.Walk.{sees, walkFrom}

@@ -1,3 +1,4 @@
+-- That `plus` (src/lib.rt) keeps its promise.
 use native.Mathlib.Omega.{arith}
 use borrow.Author.Needs.{needs}
 use Rattle.walk.proofs.plus.Statement.{statement}

@@ -1,3 +1,4 @@
+-- That `verdict` (src/lib.rt) keeps its promise.
 use Rattle.walk.proofs.QuestionLoop.{run-walk}
 use Rattle.walk.specs.Walk.{replyOf}
 use mathlib.Core.Path.{ap, _∙_}

@@ -1,3 +1,4 @@
+-- That `visit` (src/lib.rt) keeps its promise.
 use Rattle.walk.proofs.QuestionLoop.{visit-sees}
 use Rattle.walk.proofs.Powers.{power-positive, power-shifted}
 use Prim.Native.Nat.{ℕ, _-_}

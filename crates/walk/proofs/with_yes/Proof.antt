@@ -1,3 +1,4 @@
+-- That `with_yes` (src/lib.rt) keeps its promise.
 use Rattle.walk.proofs.Powers.{power-small, power-shifted, power-twice}
 use native.Mathlib.Omega.{arith}
 use borrow.Author.Needs.{needs}

@@ -1,3 +1,4 @@
+-- That `operators::apply_one` (src/operators.rt) keeps its promise.
 use borrow.Author.Needs.{needs}
 use Rattle.belnap.proofs.operators.apply_one.Statement.{statement}
 use Rattle.belnap.proofs.operators.apply_one.Tie as tie

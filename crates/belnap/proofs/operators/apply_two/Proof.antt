@@ -1,3 +1,4 @@
+-- That `operators::apply_two` (src/operators.rt) keeps its promise.
 use borrow.Author.Needs.{needs}
 use Rattle.belnap.proofs.operators.apply_two.Statement.{statement}
 use Rattle.belnap.proofs.operators.apply_two.Tie as tie

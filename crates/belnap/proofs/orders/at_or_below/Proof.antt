@@ -1,3 +1,4 @@
+-- That `orders::at_or_below` (src/orders.rt) keeps its promise.
 use borrow.Author.Needs.{needs}
 use Rattle.belnap.proofs.orders.at_or_below.Statement.{statement}
 use Rattle.belnap.proofs.orders.at_or_below.Tie as tie

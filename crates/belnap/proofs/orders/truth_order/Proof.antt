@@ -1,3 +1,4 @@
+-- That `orders::truth_order` (src/orders.rt) keeps its promise.
 use borrow.Author.Needs.{needs}
 use Rattle.belnap.proofs.orders.truth_order.Statement.{statement}
 use Rattle.belnap.proofs.orders.truth_order.Tie as tie

@@ -1,3 +1,4 @@
+-- That `sets::image_one` (src/sets.rt) keeps its promise.
 use mathlib.Core.Path.{_∙_}
 use Rattle.belnap.specs.Operators.{negation, conflation, closedDefault, openDefault}
 use Rattle.possible.specs.Sets.{mask, ofMask, over, imageOne}

@@ -1,3 +1,4 @@
+-- That `sets::image_two` (src/sets.rt) keeps its promise.
 use mathlib.Core.Path.{_∙_}
 use Rattle.belnap.specs.declared.Decision.the-variants.{U, D, G, C}
 use Rattle.belnap.specs.Operators.{truthMeet, truthJoin, knowledgeMeet, knowledgeJoin, implication, guard, override}

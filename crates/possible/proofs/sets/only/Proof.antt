@@ -1,3 +1,4 @@
+-- That `sets::only` (src/sets.rt) keeps its promise.
 use Rattle.possible.specs.Sets.{mask}
 use borrow.Author.Needs.{needs}
 use Rattle.possible.proofs.sets.only.Statement.{statement}

@@ -1,3 +1,4 @@
+-- That `Table::empty` (src/lib.rt) keeps its promise.
 use Rattle.table.specs.Reading.{tableOf, predicates}
 use borrow.Author.Needs.{needs}
 use Rattle.table.proofs.Table.empty.Statement.{statement}

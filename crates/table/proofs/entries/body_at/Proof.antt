@@ -1,3 +1,4 @@
+-- That `entries::body_at` (src/entries.rt) keeps its promise.
 use Rattle.table.proofs.OneEntry.{body-cut, body-named, body-misnamed}
 use Rattle.table.specs.Kinds.{formOf}
 use lib.ListN.{length, drop, length-drop}

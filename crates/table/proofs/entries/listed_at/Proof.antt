@@ -1,3 +1,4 @@
+-- That `entries::listed_at` (src/entries.rt) keeps its promise.
 use Rattle.table.proofs.OneEntry.{unless-none, unless-some}
 use Rattle.table.specs.Entries.{stepBy}
 use mathlib.Core.Path.{sym, _∙_}

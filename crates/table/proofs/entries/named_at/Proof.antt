@@ -1,3 +1,4 @@
+-- That `entries::named_at` (src/entries.rt) keeps its promise.
 use borrow.Author.Tests.{lt-ltb, le-ltb}
 use borrow.Author.Needs.{needs}
 use Rattle.table.proofs.entries.named_at.Statement.{statement}

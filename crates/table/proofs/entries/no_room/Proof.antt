@@ -1,3 +1,4 @@
+-- That `entries::no_room` (src/entries.rt) keeps its promise.
 use borrow.Author.Tests.{lt-ltb, le-ltb}
 use Rattle.table.specs.Entries.{noRoom}
 use Rattle.table.proofs.entries.no_room.Statement.{statement}

@@ -1,3 +1,4 @@
+-- That `entries::number_at` (src/entries.rt) keeps its promise.
 use lib.Seq.{getD-drop}
 use borrow.Author.Tests.{lt-ltb, le-ltb}
 use borrow.Author.Needs.{needs}

@@ -1,3 +1,4 @@
+-- That `entries::numbers_of` (src/entries.rt) keeps its promise.
 use Rattle.table.proofs.OneEntry.{few}
 use borrow.Author.Needs.{needs}
 use Rattle.table.proofs.entries.numbers_of.Statement.{statement}

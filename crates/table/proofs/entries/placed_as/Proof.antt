@@ -1,3 +1,4 @@
+-- That `entries::placed_as` (src/entries.rt) keeps its promise.
 use borrow.Author.Needs.{needs}
 use Rattle.table.proofs.entries.placed_as.Statement.{statement}
 use Rattle.table.proofs.entries.placed_as.Tie as tie

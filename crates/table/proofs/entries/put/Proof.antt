@@ -1,3 +1,4 @@
+-- That `entries::put` (src/entries.rt) keeps its promise.
 use mathlib.Core.Path.{_≡_, sym, _∙_}
 use Prim.Native.Nat.{_<_}
 use native.Mathlib.Omega.{arith}

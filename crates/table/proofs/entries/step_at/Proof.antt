@@ -1,3 +1,4 @@
+-- That `entries::step_at` (src/entries.rt) keeps its promise.
 use Rattle.table.specs.Entries.{stepOf, stepBy}
 use borrow.Author.Needs.{needs}
 use Rattle.table.proofs.entries.step_at.Statement.{statement}

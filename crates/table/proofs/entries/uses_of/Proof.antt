@@ -1,3 +1,4 @@
+-- That `entries::uses_of` (src/entries.rt) keeps its promise.
 use borrow.Author.Needs.{needs}
 use Rattle.table.proofs.entries.uses_of.Statement.{statement}
 use Rattle.table.proofs.entries.uses_of.Tie as tie

@@ -1,3 +1,4 @@
+-- That `flat::flat_rows` (src/flat.rt) keeps its promise.
 use Rattle.table.proofs.Runs.{flat-turn}
 use Rattle.table.specs.Flat.{upTo, flat}
 use Rattle.table.specs.Reading.{padded}

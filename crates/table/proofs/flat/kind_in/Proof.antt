@@ -1,3 +1,4 @@
+-- That `flat::kind_in` (src/flat.rt) keeps its promise.
 use Rattle.table.specs.Flat.{kindIn}
 use borrow.Author.Needs.{needs}
 use Rattle.table.proofs.flat.kind_in.Statement.{statement}

@@ -1,3 +1,4 @@
+-- That `kinds::form_of` (src/kinds.rt) keeps its promise.
 use borrow.Author.Needs.{needs}
 use Rattle.table.proofs.kinds.form_of.Statement.{statement}
 use Rattle.table.proofs.kinds.form_of.Tie as tie

@@ -1,3 +1,4 @@
+-- That `kinds::kind_of` (src/kinds.rt) keeps its promise.
 use Rattle.table.proofs.KindTable.{gap, past-three, always-kind}
 use Rattle.table.specs.Kinds.{kindOf}
 use native.Mathlib.Omega.{arith}

@@ -1,3 +1,4 @@
+-- That `kinds::one_of` (src/kinds.rt) keeps its promise.
 use Rattle.table.specs.Kinds.{kindOf}
 use native.Mathlib.Omega.{arith}
 use mathlib.Core.Path.{_≡_}

@@ -1,3 +1,4 @@
+-- That `kinds::two_kind` (src/kinds.rt) keeps its promise.
 use Rattle.table.proofs.KindTable.{gap}
 use native.Mathlib.Omega.{arith}
 use Prim.Native.Nat.{_+_}

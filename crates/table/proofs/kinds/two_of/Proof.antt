@@ -1,3 +1,4 @@
+-- That `kinds::two_of` (src/kinds.rt) keeps its promise.
 use Rattle.table.proofs.KindTable.{past-three}
 use Prim.Native.Nat.{ℕ, _≤_, _<_}
 use Rattle.table.specs.Kinds.{kindOf}

@@ -1,3 +1,4 @@
+-- That `lookup::entry` (src/lookup.rt) keeps its promise.
 use native.Mathlib.Omega.{arith}
 use Rattle.table.proofs.RowPart.{at-part, missing-part}
 use mathlib.Core.Path.{sym, _∙_}

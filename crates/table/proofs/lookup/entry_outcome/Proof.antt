@@ -1,3 +1,4 @@
+-- That `lookup::entry_outcome` (src/lookup.rt) keeps its promise.
 use Rattle.table.proofs.RowPart.{at-of, at-entry, missing-bytes}
 use mathlib.Core.Path.{sym, _∙_}
 use borrow.Author.Needs.{needs}

@@ -1,3 +1,4 @@
+-- That `lookup::find` (src/lookup.rt) keeps its promise.
 use Rattle.table.proofs.Opening.{opened, turned}
 use Rattle.table.proofs.Padding.{padded-length}
 use Rattle.table.proofs.RowPart.{found-place}

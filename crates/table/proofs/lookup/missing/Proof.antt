@@ -1,3 +1,4 @@
+-- That `lookup::missing` (src/lookup.rt) keeps its promise.
 use borrow.Author.Needs.{needs}
 use Rattle.table.proofs.lookup.missing.Statement.{statement}
 use Rattle.table.proofs.lookup.missing.Tie as tie

@@ -1,3 +1,4 @@
+-- That `lookup::start_of` (src/lookup.rt) keeps its promise.
 use Rattle.table.proofs.RowPart.{start-more}
 use Rattle.table.specs.Reading.{written}
 use lib.ListN.{length, take}

@@ -1,3 +1,4 @@
+-- That `questions::both_set` (src/questions.rt) keeps its promise.
 use Rattle.walk.proofs.TruthMasks.{in-both}
 use Rattle.walk.specs.Questions.{truthMask, truthsOf, bothSet}
 use mathlib.Core.Path.{_∙_}

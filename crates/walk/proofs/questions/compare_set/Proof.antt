@@ -1,3 +1,4 @@
+-- That `questions::compare_set` (src/questions.rt) keeps its promise.
 use Rattle.walk.proofs.TruthMasks.{in-compare}
 use Rattle.walk.specs.Questions.{truthMask, compareSet}
 use Rattle.possible.specs.Sets.{ofMask}

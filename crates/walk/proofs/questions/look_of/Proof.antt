@@ -1,3 +1,4 @@
+-- That `questions::look_of` (src/questions.rt) keeps its promise.
 use Rattle.walk.proofs.TruthMasks.{look-at, look-open}
 use Rattle.walk.specs.Questions.{truthsOf}
 use native.Mathlib.Omega.{arith}

@@ -1,3 +1,4 @@
+-- That `questions::not_set` (src/questions.rt) keeps its promise.
 use Rattle.walk.proofs.TruthMasks.{in-not}
 use Rattle.walk.specs.Questions.{truthMask, truthsOf, notSet}
 use mathlib.Core.Path.{_∙_}

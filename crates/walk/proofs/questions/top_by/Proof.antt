@@ -1,3 +1,4 @@
+-- That `questions::top_by` (src/questions.rt) keeps its promise.
 use borrow.Author.Needs.{needs}
 use Rattle.walk.proofs.questions.top_by.Statement.{statement}
 use Rattle.walk.proofs.questions.top_by.Tie as tie

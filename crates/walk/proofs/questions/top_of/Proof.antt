@@ -1,3 +1,4 @@
+-- That `questions::top_of` (src/questions.rt) keeps its promise.
 use Rattle.walk.proofs.QuestionLoop.{topOf, top-bound, top-there}
 use Rattle.walk.specs.Questions.{top}
 use Rattle.decide.proofs.RowByRow.{turn}

@@ -1,3 +1,4 @@
+-- That `questions::truth_by` (src/questions.rt) keeps its promise.
 use Rattle.walk.specs.Questions.{truthSetBy, truthMask}
 use borrow.Author.Needs.{needs}
 use Rattle.walk.proofs.questions.truth_by.Statement.{statement}

@@ -1,3 +1,4 @@
+-- That `questions::truths_below` (src/questions.rt) keeps its promise.
 use Rattle.walk.proofs.QuestionLoop.{truth-turn}
 use Rattle.walk.specs.Questions.{onlyTruth, asksSet, truthMask, maskAt}
 use Rattle.decide.specs.Rows.{values}
