@@ -2,7 +2,7 @@
 -- A law that speaks of fewer decisions, or of no order, leaves the others unused.
 -- Assumes nothing.
 use mathlib.Core.Path.{_≡_, refl, sym, ap₂, _∙_}
-use mathlib.Core.Bool.{Bool, true, false, _&&_}
+use mathlib.Core.Bool.{Bool, true, false, _&&_, _||_}
 use Prim.Native.Nat.{ℕ}
 use native.Mathlib.Omega.{arith}
 use Rattle.belnap.specs.declared.Decision.{Decision}
@@ -15,6 +15,18 @@ use Rattle.belnap.specs.Decisions.{grants, denies, claiming, alike, same
 pub both-parts : (p q : Bool) → (p && q) ≡ true → (p ≡ true) × (q ≡ true)
 both-parts true q e = (refl, e)
 both-parts false q e = absurd (let z : _≡_ {A = ℕ} 0 1 = cc in omega arith)
+
+-- a disjunction is true if a part is, and then has a part that is
+pub or-left : (p q : Bool) → p ≡ true → (p || q) ≡ true
+or-left p q e = rw e
+
+pub or-right : (p q : Bool) → q ≡ true → (p || q) ≡ true
+or-right true q e = refl
+or-right false q e = e
+
+pub or-part : {P : Type 0} (p q : Bool) → (p || q) ≡ true → (p ≡ true → P) → (q ≡ true → P) → P
+or-part true q e f g = f refl
+or-part false q e f g = g e
 
 -- a test at the four decisions, and at the two orders
 abbrev pub every : (Decision → Bool) → Bool

@@ -1,7 +1,7 @@
 -- Data independence (002, as 01 condenses it): requests that agree on every predicate that a row reaches get the same decision from it.
 -- Assumes nothing.
 use mathlib.Core.Path.{_≡_, refl, ap, ap₂}
-use mathlib.Core.Bool.{Bool, true, false, _||_}
+use mathlib.Core.Bool.{Bool, true}
 use mathlib.Core.List.{List}
 use Prim.Native.Nat.{ℕ, _≤_, _<_}
 use native.Mathlib.Omega.{arith}
@@ -10,6 +10,7 @@ use borrow.Author.Tests.{eqb-true, eq-eqb}
 use Rattle.belnap.specs.declared.Decision.{Decision}
 use Rattle.belnap.specs.declared.Decision.the-variants.{U}
 use Rattle.belnap.specs.Operators.{one, two}
+use Rattle.belnap.proofs.Finite.{or-left, or-right, or-part}
 use Rattle.table.specs.declared.kinds.Kind.{Kind}
 use Rattle.table.specs.declared.kinds.Kind.the-variants.{Always, DenyIf, GrantIf, One, Two, Compare, Not, Both}
 use Rattle.table.specs.declared.entries.Entry.{Entry}
@@ -22,13 +23,6 @@ use Rattle.decide.specs.Rows.{values, valueAt}
 use Rattle.decide.specs.Meaning.{bit, decideBy, decides, decision}
 use Rattle.decide.specs.Reach.{reachBy, nowhere, reaches}
 use Rattle.decide.proofs.RowByRow.{by-rows, before-there, before-past}
-
-or-left : (a b : Bool) → a ≡ true → (a || b) ≡ true
-or-left a b e = rw e
-
-or-right : (a b : Bool) → b ≡ true → (a || b) ≡ true
-or-right true b e = refl
-or-right false b e = e
 
 -- two requests agree on some predicates
 abbrev pub Agree : (ℕ → Bool) → ℕ → ℕ → Type 0
@@ -68,11 +62,7 @@ row-below (Always v) a b n p s t u f g e = absurd (let z : _≡_ {A = ℕ} 0 1 =
 row-below DenyIf a b n p s t u f g e = omega (arith, eqb-true p a e)
 row-below GrantIf a b n p s t u f g e = omega (arith, eqb-true p a e)
 row-below (One op) a b n p s t u f g e = f e
-row-below (Two op) a b n p s t u f g e = either (s p) (t p) e f g
-  where
-    either : {P : Type 0} (a b : Bool) → (a || b) ≡ true → (a ≡ true → P) → (b ≡ true → P) → P
-    either true b e f g = f refl
-    either false b e f g = g e
+row-below (Two op) a b n p s t u f g e = or-part (s p) (t p) e f g
 row-below (Compare o) a b n p s t u f g e = absurd (let z : _≡_ {A = ℕ} 0 1 = cc in omega arith)
 row-below Not a b n p s t u f g e = absurd (let z : _≡_ {A = ℕ} 0 1 = cc in omega arith)
 row-below Both a b n p s t u f g e = absurd (let z : _≡_ {A = ℕ} 0 1 = cc in omega arith)

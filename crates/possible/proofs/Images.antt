@@ -1,11 +1,11 @@
 -- An image holds the result of every choice, and nothing else. Each law is that of `over`, at one operand and at two.
 -- Assumes nothing.
 use mathlib.Core.Path.{_≡_, refl, sym, _∙_}
-use mathlib.Core.Bool.{Bool, true, false, _&&_, _||_, or-false}
+use mathlib.Core.Bool.{Bool, true, _&&_, _||_, or-false}
 use Rattle.belnap.specs.declared.Decision.{Decision}
 use Rattle.belnap.specs.declared.Decision.the-variants.{U, D, G, C}
 use Rattle.belnap.specs.Decisions.{same}
-use Rattle.belnap.proofs.Finite.{both-parts, same-is, at}
+use Rattle.belnap.proofs.Finite.{both-parts, or-left, or-right, or-part, same-is, at}
 use Rattle.possible.specs.Sets.{Set, has, Within, those, some, single, either, over, imageOne, imageTwo}
 
 -- membership is the test
@@ -15,27 +15,15 @@ has-those p D = refl
 has-those p G = refl
 has-those p C = refl
 
--- a disjunction is true if a part is, and then has a part that is
-left : (a b : Bool) → a ≡ true → (a || b) ≡ true
-left a b e = rw e
-
-right : (a b : Bool) → b ≡ true → (a || b) ≡ true
-right true b e = refl
-right false b e = e
-
-part : {P : Type 0} (a b : Bool) → (a || b) ≡ true → (a ≡ true → P) → (b ≡ true → P) → P
-part true b e f g = f refl
-part false b e f g = g e
-
 -- some decision passes a test if one does, and then there is one that does
 pub some-of : (p : Decision → Bool) (x : Decision) → p x ≡ true → some p ≡ true
-some-of p U e = left (p U || p D) (p G || p C) (left (p U) (p D) e)
-some-of p D e = left (p U || p D) (p G || p C) (right (p U) (p D) e)
-some-of p G e = right (p U || p D) (p G || p C) (left (p G) (p C) e)
-some-of p C e = right (p U || p D) (p G || p C) (right (p G) (p C) e)
+some-of p U e = or-left (p U || p D) (p G || p C) (or-left (p U) (p D) e)
+some-of p D e = or-left (p U || p D) (p G || p C) (or-right (p U) (p D) e)
+some-of p G e = or-right (p U || p D) (p G || p C) (or-left (p G) (p C) e)
+some-of p C e = or-right (p U || p D) (p G || p C) (or-right (p G) (p C) e)
 
 pub which : {P : Type 0} (p : Decision → Bool) → some p ≡ true → ((x : Decision) → p x ≡ true → P) → P
-which p e k = part (p U || p D) (p G || p C) e (λ e. part (p U) (p D) e (k U) (k D)) (λ e. part (p G) (p C) e (k G) (k C))
+which p e k = or-part (p U || p D) (p G || p C) e (λ e. or-part (p U) (p D) e (k U) (k D)) (λ e. or-part (p G) (p C) e (k G) (k C))
 
 -- "its one decision"
 pub single-has : (x : Decision) → has (single x) x ≡ true
@@ -46,10 +34,10 @@ single-is x v e = same-is x v (sym (has-those (same x) v) ∙ e)
 
 -- "u and its own"
 pub either-left : (s t : Set) → Within s (either s t)
-either-left s t v e = has-those (λ v. has s v || has t v) v ∙ left (has s v) (has t v) e
+either-left s t v e = has-those (λ v. has s v || has t v) v ∙ or-left (has s v) (has t v) e
 
 pub either-right : (s t : Set) → Within t (either s t)
-either-right s t v e = has-those (λ v. has s v || has t v) v ∙ right (has s v) (has t v) e
+either-right s t v e = has-those (λ v. has s v || has t v) v ∙ or-right (has s v) (has t v) e
 
 -- what a choice leads to is there, and nothing else; one choice alone; more choices, each of which leads to more
 over-has : (s : Set) (f : Decision → Set) (x v : Decision) → has s x ≡ true → has (f x) v ≡ true → has (over s f) v ≡ true

@@ -2,7 +2,7 @@
 -- adds none, and with nothing unknown only the truth is left.
 -- Assumes nothing.
 use mathlib.Core.Path.{_≡_, refl, sym, ap, ap₂, _∙_}
-use mathlib.Core.Bool.{Bool, true, false, not, _&&_, _||_}
+use mathlib.Core.Bool.{Bool, true, false, not, _&&_}
 use mathlib.Core.List.{List}
 use Prim.Native.Nat.{ℕ, _<_}
 use lib.ListN.{getD}
@@ -10,7 +10,7 @@ use Rattle.belnap.specs.declared.Decision.{Decision}
 use Rattle.belnap.specs.declared.orders.Order.{Order}
 use Rattle.belnap.specs.Decisions.{alike}
 use Rattle.belnap.specs.Orders.{atOrBelow}
-use Rattle.belnap.proofs.Finite.{both-parts, alike-is}
+use Rattle.belnap.proofs.Finite.{both-parts, or-right, or-part, alike-is}
 use Rattle.table.specs.declared.kinds.Kind.{Kind}
 use Rattle.table.specs.declared.kinds.Kind.the-variants.{Always, DenyIf, GrantIf, One, Two, Compare, Not, Both}
 use Rattle.table.specs.declared.entries.Entry.{Entry}
@@ -33,17 +33,9 @@ has-those p false = refl
 some-truth : (p : Bool → Bool) (b : Bool) → p b ≡ true → someTruth p ≡ true
 some-truth p true e = rw e
 some-truth p false e = or-right (p true) (p false) e
-  where
-    or-right : (a b : Bool) → b ≡ true → (a || b) ≡ true
-    or-right true b e = refl
-    or-right false b e = e
 
 which-truth : {P : Type 0} (p : Bool → Bool) → someTruth p ≡ true → ((b : Bool) → p b ≡ true → P) → P
-which-truth {P} p e k = go (p true) (p false) e (k true) (k false)
-  where
-    go : (a b : Bool) → (a || b) ≡ true → (a ≡ true → P) → (b ≡ true → P) → P
-    go true b e f g = f refl
-    go false b e f g = g e
+which-truth p e k = or-part (p true) (p false) e (k true) (k false)
 
 alike-self : (b : Bool) → alike b b ≡ true
 alike-self true = refl
