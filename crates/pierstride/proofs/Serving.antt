@@ -60,7 +60,7 @@ module _ (s : List ℕ) (r : Reading) (o : Opened s r) where
   questions-at i = ap (λ (t : Table). getD (t .questions) i blank) (o .table) ∙ padded-at blank questionLimit (o .contents .questions) i
 
   -- what each service answers of an accepted table
-  pub counts-answer : _≡_ {A = Counts} (record { place = 0; refusal = 0; rows = r .table .used; questions = r .table .asked; predicates = r .table .predicates }) (countsOf (reading s))
+  pub counts-answer : _≡_ {A = Counts} (record { refusal = 0; place = 0; rows = r .table .used; questions = r .table .asked; predicates = r .table .predicates }) (countsOf (reading s))
   unfolding countsOf
   counts-answer = rw (o .is, used-is, asked-is, predicates-is)
 
@@ -74,7 +74,7 @@ module _ (s : List ℕ) (r : Reading) (o : Opened s r) where
     decided-beyond h e = rw (o .is, lt-ltb _ _ (rw used-is at h), e)
 
     pub decided-answer : (v : Decision) (n : ℕ) → at < r .table .used → beyond request ≡ false → v ≡ decisionIn (r .table .rows) request at → n ≡ code v →
-        _≡_ {A = Decided} (record { place = 0; refusal = 0; code = n }) (decidedOf (reading s) at request)
+        _≡_ {A = Decided} (record { refusal = 0; place = 0; code = n }) (decidedOf (reading s) at request)
     unfolding decidedOf
     decided-answer v n h e q c =
         let l : at < length (o .contents .rows) = rw used-is at h in
@@ -92,7 +92,7 @@ module _ (s : List ℕ) (r : Reading) (o : Opened s r) where
     set-beyond h e = rw (o .is, lt-ltb _ _ (rw used-is at h), e)
 
     pub set-answer : (n : ℕ) → at < r .table .used → badMasks known request ≡ false → n ≡ mask (possibleIn (r .table .rows) known request at) →
-        _≡_ {A = Remaining} (record { place = 0; refusal = 0; set = n }) (remainingOf (reading s) at known request)
+        _≡_ {A = Remaining} (record { refusal = 0; place = 0; set = n }) (remainingOf (reading s) at known request)
     unfolding remainingOf
     set-answer n h e q =
         let l : at < length (o .contents .rows) = rw used-is at h in

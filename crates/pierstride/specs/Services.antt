@@ -35,42 +35,42 @@ refusalOf (Refused n p) = record { number = n; place = p }
 
 -- "Reading a table answers the number of rows, the number of questions, and n."
 abbrev pub refusedCounts : ℕ → ℕ → Counts
-refusedCounts n p = record { place = p; refusal = n; rows = 0; questions = 0; predicates = 0 }
+refusedCounts n p = record { refusal = n; place = p; rows = 0; questions = 0; predicates = 0 }
 
 unfoldable pub countsOf : Result → Counts
-countsOf (accepted c) = record { place = 0; refusal = 0; rows = length (c .rows); questions = length (c .questions); predicates = predicates (c .rows) }
+countsOf (accepted c) = record { refusal = 0; place = 0; rows = length (c .rows); questions = length (c .questions); predicates = predicates (c .rows) }
 countsOf (refused n p) = refusedCounts n p
 
 -- "Deciding one row takes a yes mask alone, every predicate being known, and answers the code; its own refusals are 8 and 10."
 abbrev pub refusedDecided : ℕ → ℕ → Decided
-refusedDecided n p = record { place = p; refusal = n; code = 0 }
+refusedDecided n p = record { refusal = n; place = p; code = 0 }
 
 unfoldable pub decidedOf : Result → ℕ → ℕ → Decided
 decidedOf (accepted c) r request =
     cond (ltb r (length (c .rows)))
-    (cond (beyond request) (refusedDecided 10 0) (record { place = 0; refusal = 0; code = code (decision (c .rows) request r) }))
+    (cond (beyond request) (refusedDecided 10 0) (record { refusal = 0; place = 0; code = code (decision (c .rows) request r) }))
     (refusedDecided 8 0)
 decidedOf (refused n p) r request = refusedDecided n p
 
 -- "It answers with a set of decisions, a mask in which u counts 1, d 2, g 4, c 8."
 abbrev pub refusedRemaining : ℕ → ℕ → Remaining
-refusedRemaining n p = record { place = p; refusal = n; set = 0 }
+refusedRemaining n p = record { refusal = n; place = p; set = 0 }
 
 unfoldable pub remainingOf : Result → ℕ → ℕ → ℕ → Remaining
 remainingOf (accepted c) r known request =
     cond (ltb r (length (c .rows)))
-    (cond (badMasks known request) (refusedRemaining 10 0) (record { place = 0; refusal = 0; set = mask (possible (c .rows) known request r) }))
+    (cond (badMasks known request) (refusedRemaining 10 0) (record { refusal = 0; place = 0; set = mask (possible (c .rows) known request r) }))
     (refusedRemaining 8 0)
 remainingOf (refused n p) r known request = refusedRemaining n p
 
 -- "holds, with the count; fails, with the breaking request as a yes mask and the count; unfinished, with the budget as the count": replies 1, 2 and 3
 abbrev pub refusedVerdict : ℕ → ℕ → Verdict
-refusedVerdict n p = record { place = p; refusal = n; reply = 0; request = 0; visits = 0 }
+refusedVerdict n p = record { refusal = n; place = p; reply = 0; request = 0; visits = 0 }
 
 abbrev pub repliedOf : Reply → Verdict
-repliedOf (Holds n) = record { place = 0; refusal = 0; reply = 1; request = 0; visits = n }
-repliedOf (Fails m n) = record { place = 0; refusal = 0; reply = 2; request = m; visits = n }
-repliedOf (Unfinished n) = record { place = 0; refusal = 0; reply = 3; request = 0; visits = n }
+repliedOf (Holds n) = record { refusal = 0; place = 0; reply = 1; request = 0; visits = n }
+repliedOf (Fails m n) = record { refusal = 0; place = 0; reply = 2; request = m; visits = n }
+repliedOf (Unfinished n) = record { refusal = 0; place = 0; reply = 3; request = 0; visits = n }
 
 unfoldable pub verdictOf : Result → ℕ → ℕ → Verdict
 verdictOf (accepted c) q budget =
@@ -81,13 +81,13 @@ verdictOf (refused n p) q budget = refusedVerdict n p
 
 -- where a row's own bytes stand
 abbrev pub partOf : Place → Located
-partOf (At start n) = record { place = 0; start = start; length = n; refusal = 0 }
-partOf (Missing n p) = record { place = p; start = 0; length = 0; refusal = n }
+partOf (At start n) = record { refusal = 0; place = 0; start = start; length = n }
+partOf (Missing n p) = record { refusal = n; place = p; start = 0; length = 0 }
 
 abbrev pub locatedOf : Result → ℕ → Located
 locatedOf x r = partOf (placeOf x r)
 
 -- "The length comes back."
 abbrev pub closedOf : Struck → Closed
-closedOf (Written n) = record { place = 0; length = n; refusal = 0 }
-closedOf (RefusedStrike n p) = record { place = p; length = 0; refusal = n }
+closedOf (Written n) = record { refusal = 0; place = 0; length = n }
+closedOf (RefusedStrike n p) = record { refusal = n; place = p; length = 0 }

@@ -20,8 +20,8 @@ pub struct Refusal {
 // How many rows and questions a table has, and n.
 #[repr(C)]
 pub struct Counts {
-    pub place: usize,
     pub refusal: u32,
+    pub place: usize,
     pub rows: u32,
     pub questions: u32,
     pub predicates: u32,
@@ -30,24 +30,24 @@ pub struct Counts {
 // The code of a row's decision.
 #[repr(C)]
 pub struct Decided {
-    pub place: usize,
     pub refusal: u32,
+    pub place: usize,
     pub code: u32,
 }
 
 // The mask of the decisions that remain possible for a row.
 #[repr(C)]
 pub struct Remaining {
-    pub place: usize,
     pub refusal: u32,
+    pub place: usize,
     pub set: u32,
 }
 
 // The reply to a question: 1 holds, 2 fails with the breaking request, 3 unfinished.
 #[repr(C)]
 pub struct Verdict {
-    pub place: usize,
     pub refusal: u32,
+    pub place: usize,
     pub reply: u32,
     pub request: u32,
     pub visits: u32,
@@ -56,18 +56,18 @@ pub struct Verdict {
 // Where a row's own bytes stand in the caller's table.
 #[repr(C)]
 pub struct Located {
+    pub refusal: u32,
     pub place: usize,
     pub start: usize,
     pub length: usize,
-    pub refusal: u32,
 }
 
 // How many bytes the table has once a row is struck.
 #[repr(C)]
 pub struct Closed {
+    pub refusal: u32,
     pub place: usize,
     pub length: usize,
-    pub refusal: u32,
 }
 
 fn refusal_of(outcome: Outcome) -> Refusal
@@ -90,8 +90,8 @@ fn no_counts(r: Refusal) -> Counts
     ensures { λ x. ⌜ x ≡ refusedCounts (r .number) (r .place) ⌝ }
 {
     Counts {
-        place: r.place,
         refusal: r.number,
+        place: r.place,
         rows: 0,
         questions: 0,
         predicates: 0,
@@ -102,8 +102,8 @@ fn no_decision(r: Refusal) -> Decided
     ensures { λ x. ⌜ x ≡ refusedDecided (r .number) (r .place) ⌝ }
 {
     Decided {
-        place: r.place,
         refusal: r.number,
+        place: r.place,
         code: 0,
     }
 }
@@ -112,8 +112,8 @@ fn no_set(r: Refusal) -> Remaining
     ensures { λ x. ⌜ x ≡ refusedRemaining (r .number) (r .place) ⌝ }
 {
     Remaining {
-        place: r.place,
         refusal: r.number,
+        place: r.place,
         set: 0,
     }
 }
@@ -122,8 +122,8 @@ fn no_verdict(r: Refusal) -> Verdict
     ensures { λ x. ⌜ x ≡ refusedVerdict (r .number) (r .place) ⌝ }
 {
     Verdict {
-        place: r.place,
         refusal: r.number,
+        place: r.place,
         reply: 0,
         request: 0,
         visits: 0,
@@ -142,8 +142,8 @@ pub extern "C" fn pier_read(table: &[u8]) -> Counts
     };
     let t = got.table;
     Counts {
-        place: 0,
         refusal: 0,
+        place: 0,
         rows: t.used as u32,
         questions: t.asked as u32,
         predicates: t.predicates as u32,
@@ -183,8 +183,8 @@ pub extern "C" fn pier_decide(table: &[u8], row: u32, request: u32) -> Decided
     }
     let v = decide::decide(t, at, request);
     Decided {
-        place: 0,
         refusal: 0,
+        place: 0,
         code: belnap::code_of(v) as u32,
     }
 }
@@ -236,8 +236,8 @@ pub extern "C" fn pier_possible(table: &[u8], row: u32, known: u32, request: u32
     }
     let set = possible::possible(t, at, known, request);
     Remaining {
-        place: 0,
         refusal: 0,
+        place: 0,
         set: set as u32,
     }
 }
@@ -248,22 +248,22 @@ fn replied(reply: Reply) -> Verdict
 {
     match reply {
         Reply::Holds(visits) => Verdict {
-            place: 0,
             refusal: 0,
+            place: 0,
             reply: 1,
             request: 0,
             visits,
         },
         Reply::Fails(request, visits) => Verdict {
-            place: 0,
             refusal: 0,
+            place: 0,
             reply: 2,
             request,
             visits,
         },
         Reply::Unfinished(visits) => Verdict {
-            place: 0,
             refusal: 0,
+            place: 0,
             reply: 3,
             request: 0,
             visits,
@@ -300,16 +300,16 @@ pub extern "C" fn pier_entry(table: &[u8], row: u32) -> Located
     let found = table::lookup::find(table, row);
     match found {
         Place::At(start, length) => Located {
+            refusal: 0,
             place: 0,
             start,
             length,
-            refusal: 0,
         },
         Place::Missing(number, place) => Located {
+            refusal: number as u32,
             place,
             start: 0,
             length: 0,
-            refusal: number as u32,
         },
     }
 }
@@ -322,14 +322,14 @@ pub extern "C" fn pier_strike(table: &[u8], row: u32, out: &mut [u8]) -> Closed
     let struck = strike::strike(table, row, out);
     match struck {
         Struck::Written(length) => Closed {
+            refusal: 0,
             place: 0,
             length,
-            refusal: 0,
         },
         Struck::Refused(number, place) => Closed {
+            refusal: number as u32,
             place,
             length: 0,
-            refusal: number as u32,
         },
     }
 }
