@@ -4,3 +4,4 @@ pub mod Codes
 pub mod Bilattice
 pub mod Formulas
 pub mod Notebook
+pub mod Unique

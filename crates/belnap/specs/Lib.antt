@@ -2,3 +2,4 @@
 pub mod Decisions
 pub mod Operators
 pub mod Orders
+pub mod One

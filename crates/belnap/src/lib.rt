@@ -4,35 +4,13 @@ pub mod operators;
 pub mod orders;
 
 ghost use mathlib.Core.Path.{_≡_};
-ghost use Rattle.belnap.specs.Decisions.{grants, denies, code, coded};
+ghost use Rattle.belnap.specs.Decisions.{code, coded};
 
 pub enum Decision {
     U,
     D,
     G,
     C,
-}
-
-pub fn granting(x: Decision) -> bool
-    ensures { λ r. ⌜ r ≡ grants x ⌝ }
-{
-    match x {
-        Decision::U => false,
-        Decision::D => false,
-        Decision::G => true,
-        Decision::C => true,
-    }
-}
-
-pub fn denying(x: Decision) -> bool
-    ensures { λ r. ⌜ r ≡ denies x ⌝ }
-{
-    match x {
-        Decision::U => false,
-        Decision::D => true,
-        Decision::G => false,
-        Decision::C => true,
-    }
 }
 
 pub fn code_of(x: Decision) -> u8

@@ -26,7 +26,7 @@ pub enum TwoRow {
     OverrideC,
 }
 
-pub fn negation(x: Decision) -> Decision
+fn negation(x: Decision) -> Decision
     ensures { λ r. ⌜ r ≡ negated x ⌝ }
 {
     match x {
@@ -37,7 +37,7 @@ pub fn negation(x: Decision) -> Decision
     }
 }
 
-pub fn conflation(x: Decision) -> Decision
+fn conflation(x: Decision) -> Decision
     ensures { λ r. ⌜ r ≡ conflated x ⌝ }
 {
     match x {
@@ -48,7 +48,7 @@ pub fn conflation(x: Decision) -> Decision
     }
 }
 
-pub fn closed_default(x: Decision) -> Decision
+fn closed_default(x: Decision) -> Decision
     ensures { λ r. ⌜ r ≡ closedDefault x ⌝ }
 {
     match x {
@@ -59,7 +59,7 @@ pub fn closed_default(x: Decision) -> Decision
     }
 }
 
-pub fn open_default(x: Decision) -> Decision
+fn open_default(x: Decision) -> Decision
     ensures { λ r. ⌜ r ≡ openDefault x ⌝ }
 {
     match x {
@@ -70,7 +70,7 @@ pub fn open_default(x: Decision) -> Decision
     }
 }
 
-pub fn truth_meet(x: Decision, y: Decision) -> Decision
+fn truth_meet(x: Decision, y: Decision) -> Decision
     ensures { λ r. ⌜ r ≡ truthMeet x y ⌝ }
 {
     match x {
@@ -101,7 +101,7 @@ pub fn truth_meet(x: Decision, y: Decision) -> Decision
     }
 }
 
-pub fn truth_join(x: Decision, y: Decision) -> Decision
+fn truth_join(x: Decision, y: Decision) -> Decision
     ensures { λ r. ⌜ r ≡ truthJoin x y ⌝ }
 {
     match x {
@@ -132,7 +132,7 @@ pub fn truth_join(x: Decision, y: Decision) -> Decision
     }
 }
 
-pub fn knowledge_meet(x: Decision, y: Decision) -> Decision
+fn knowledge_meet(x: Decision, y: Decision) -> Decision
     ensures { λ r. ⌜ r ≡ knowledgeMeet x y ⌝ }
 {
     match x {
@@ -163,7 +163,7 @@ pub fn knowledge_meet(x: Decision, y: Decision) -> Decision
     }
 }
 
-pub fn knowledge_join(x: Decision, y: Decision) -> Decision
+fn knowledge_join(x: Decision, y: Decision) -> Decision
     ensures { λ r. ⌜ r ≡ knowledgeJoin x y ⌝ }
 {
     match x {
@@ -194,7 +194,7 @@ pub fn knowledge_join(x: Decision, y: Decision) -> Decision
     }
 }
 
-pub fn implication(x: Decision, y: Decision) -> Decision
+fn implication(x: Decision, y: Decision) -> Decision
     ensures { λ r. ⌜ r ≡ implied x y ⌝ }
 {
     match x {
@@ -225,7 +225,7 @@ pub fn implication(x: Decision, y: Decision) -> Decision
     }
 }
 
-pub fn guard(x: Decision, y: Decision) -> Decision
+fn guard(x: Decision, y: Decision) -> Decision
     ensures { λ r. ⌜ r ≡ guarded x y ⌝ }
 {
     match x {
@@ -256,7 +256,7 @@ pub fn guard(x: Decision, y: Decision) -> Decision
     }
 }
 
-pub fn override_u(x: Decision, y: Decision) -> Decision
+fn override_u(x: Decision, y: Decision) -> Decision
     ensures { λ r. ⌜ r ≡ override Decision.U x y ⌝ }
 {
     match x {
@@ -287,7 +287,7 @@ pub fn override_u(x: Decision, y: Decision) -> Decision
     }
 }
 
-pub fn override_d(x: Decision, y: Decision) -> Decision
+fn override_d(x: Decision, y: Decision) -> Decision
     ensures { λ r. ⌜ r ≡ override Decision.D x y ⌝ }
 {
     match x {
@@ -318,7 +318,7 @@ pub fn override_d(x: Decision, y: Decision) -> Decision
     }
 }
 
-pub fn override_g(x: Decision, y: Decision) -> Decision
+fn override_g(x: Decision, y: Decision) -> Decision
     ensures { λ r. ⌜ r ≡ override Decision.G x y ⌝ }
 {
     match x {
@@ -349,7 +349,7 @@ pub fn override_g(x: Decision, y: Decision) -> Decision
     }
 }
 
-pub fn override_c(x: Decision, y: Decision) -> Decision
+fn override_c(x: Decision, y: Decision) -> Decision
     ensures { λ r. ⌜ r ≡ override Decision.C x y ⌝ }
 {
     match x {

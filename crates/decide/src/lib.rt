@@ -21,7 +21,7 @@ pub fn bit_of(mask: u32, predicate: u8) -> bool
 }
 
 // What a row decides where the rows that it names decide x and y.
-pub fn decide_by(kind: Kind, predicate: u8, request: u32, x: Decision, y: Decision) -> Decision
+fn decide_by(kind: Kind, predicate: u8, request: u32, x: Decision, y: Decision) -> Decision
     ensures { λ r. ⌜ r ≡ decideBy kind predicate request x y ⌝ }
 {
     match kind {

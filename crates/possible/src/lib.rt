@@ -33,7 +33,7 @@ fn fact_set(v: Decision, predicate: u8, known: u32, request: u32) -> u8
 }
 
 // The set of a row where the rows that it names have the sets s and t.
-pub fn set_by(kind: Kind, predicate: u8, known: u32, request: u32, s: u8, t: u8) -> u8
+fn set_by(kind: Kind, predicate: u8, known: u32, request: u32, s: u8, t: u8) -> u8
     ensures { λ r. ⌜ r ≡ mask (setBy kind predicate known request (ofMask s) (ofMask t)) ⌝ }
 {
     match kind {

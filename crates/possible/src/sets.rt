@@ -9,7 +9,7 @@ ghost use Rattle.belnap.specs.Operators.{one, two};
 ghost use Rattle.possible.specs.Sets.{mask, ofMask, single, either, imageOne, imageTwo};
 
 // The set of one decision alone.
-pub fn only(x: Decision) -> u8
+pub(crate) fn only(x: Decision) -> u8
     ensures { λ r. ⌜ r ≡ mask (single x) ⌝ }
 {
     match x {
@@ -21,7 +21,7 @@ pub fn only(x: Decision) -> u8
 }
 
 // The set of u and one decision: a predicate row whose predicate is unknown.
-pub fn perhaps(x: Decision) -> u8
+pub(crate) fn perhaps(x: Decision) -> u8
     ensures { λ r. ⌜ r ≡ mask (either (single Decision.U) (single x)) ⌝ }
 {
     match x {
@@ -41,7 +41,7 @@ pub fn digit(word: u64, n: usize) -> u8
 }
 
 // Every result of a one-row operator over every choice from a set.
-pub fn image_one(op: OneRow, s: u8) -> u8
+pub(crate) fn image_one(op: OneRow, s: u8) -> u8
     ensures { λ r. ⌜ r ≡ mask (imageOne (one op) (ofMask s)) ⌝ }
 {
     let i = (s % 16) as usize;
@@ -54,7 +54,7 @@ pub fn image_one(op: OneRow, s: u8) -> u8
 }
 
 // Every result of a two-row operator over every choice from two sets.
-pub fn image_two(op: TwoRow, s: u8, t: u8) -> u8
+pub(crate) fn image_two(op: TwoRow, s: u8, t: u8) -> u8
     ensures { λ r. ⌜ r ≡ mask (imageTwo (two op) (ofMask s) (ofMask t)) ⌝ }
 {
     let i = (s % 16) as usize;

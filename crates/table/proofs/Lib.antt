@@ -10,3 +10,4 @@ pub mod Opening
 pub mod RowPart
 pub mod Laws
 pub mod Runs
+pub mod Unique

@@ -21,6 +21,11 @@ unfoldable pub placeOf : Result → ℕ → Place
 placeOf (accepted c) r = cond (ltb r (length (c .rows))) (At (length (written (take r (c .rows)))) (length (bytesOf (getD (c .rows) r blank)))) (Missing 8 0)
 placeOf (refused n p) r = Missing n p
 
+-- where the part at a place starts; 0 where there is none
+abbrev pub startAt : Place → ℕ
+startAt (At start n) = start
+startAt (Missing n p) = 0
+
 -- the part of a table at a place; an empty one where there is none
 unfoldable pub partAt : Place → List ℕ → List ℕ
 partAt (At start n) table = take n (drop start table)

@@ -38,7 +38,7 @@ pub fn numbers_of(e: Entry) -> usize
 }
 
 // One more than the predicate that an entry uses; 0 if it uses none.
-pub fn uses_of(e: Entry) -> usize
+pub(crate) fn uses_of(e: Entry) -> usize
     ensures { λ r. ⌜ (r ≡ uses e) × (r < 257) ⌝ }
 {
     let kind = e.kind;
@@ -155,7 +155,7 @@ fn listed_at(kind: Kind, s: &[u8], at: usize, rows: usize, questions: usize) -> 
 }
 
 // The entry whose kind byte stands at a place, in a table with so many rows and questions before it.
-pub fn step_at(s: &[u8], at: usize, rows: usize, questions: usize) -> Step
+pub(crate) fn step_at(s: &[u8], at: usize, rows: usize, questions: usize) -> Step
     requires { ⌜ at < length (now s) ⌝ }
     ensures { λ r. ⌜ r ≡ stepOf (getD (now (s .entry)) at 0) (drop (at + 1) (now (s .entry))) rows questions ⌝ }
 {

@@ -41,7 +41,7 @@ pub struct Form {
 }
 
 // The kinds go by families, one for each high digit of the byte.
-pub fn kind_of(byte: u8) -> Announced
+pub(crate) fn kind_of(byte: u8) -> Announced
     ensures { λ r. ⌜ r ≡ kindOf byte ⌝ }
 {
     let family = byte / 16;
@@ -132,7 +132,7 @@ fn override_of(low: u8) -> TwoRow
     }
 }
 
-pub fn byte_of(kind: Kind) -> u8
+pub(crate) fn byte_of(kind: Kind) -> u8
     ensures { λ r. ⌜ r ≡ byteOf kind ⌝ }
 {
     match kind {

@@ -3,10 +3,10 @@ use crate::Outcome;
 use crate::Table;
 use crate::entries;
 ghost use mathlib.Core.Path.{_≡_};
-ghost use Prim.Native.Nat.{_≤_, _<_};
+ghost use Prim.Native.Nat.{_+_, _≤_, _<_};
 ghost use lib.ListN.{length, take};
 ghost use Rattle.table.specs.Reading.{reading, written};
-ghost use Rattle.table.specs.Lookup.{missingOf, placeOf, partAt, entryBytes, entryOutcome};
+ghost use Rattle.table.specs.Lookup.{missingOf, placeOf, startAt, partAt, entryBytes, entryOutcome};
 
 // Where a row's bytes start and how many they are, or a refusal's number and place.
 pub enum Place {
@@ -61,7 +61,9 @@ pub fn find(table: &[u8], row: u32) -> Place
 
 // The row's own bytes, as a part of the table that starts at the row's kind byte; an empty part where there is none.
 pub fn entry(table: &[u8], row: u32) -> &[u8]
-    ensures { λ r. ⌜ (now r ≡ entryBytes (reading (now (table .entry))) row) × (now r ≡ partAt (placeOf (reading (now (table .entry))) row) (now (table .entry))) ⌝ }
+    ensures own { λ r. ⌜ now r ≡ entryBytes (reading (now (table .entry))) row ⌝ }
+    ensures part { λ r. ⌜ now r ≡ partAt (placeOf (reading (now (table .entry))) row) (now (table .entry)) ⌝ }
+    ensures place { λ r. ⌜ (r .ptr .0 ≡ table .entry .ptr .0) × (r .ptr .1 ≡ table .entry .ptr .1 + startAt (placeOf (reading (now (table .entry))) row)) ⌝ }
 {
     let found = find(table, row);
     match found {

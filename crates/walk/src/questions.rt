@@ -22,7 +22,7 @@ pub enum Look {
     Open,
 }
 
-pub fn look_of(t: u8) -> Look
+pub(crate) fn look_of(t: u8) -> Look
     ensures { λ r. ⌜ r ≡ look (truthsOf t) ⌝ }
 {
     let m = t % 4;
@@ -34,7 +34,7 @@ pub fn look_of(t: u8) -> Look
 }
 
 // Every outcome of a comparison over every choice from two sets of decisions.
-pub fn compare_set(order: Order, s: u8, t: u8) -> u8
+fn compare_set(order: Order, s: u8, t: u8) -> u8
     ensures { λ r. ⌜ r ≡ truthMask (compareSet order (ofMask s) (ofMask t)) ⌝ }
 {
     let i = (s % 16) as usize;
@@ -46,7 +46,7 @@ pub fn compare_set(order: Order, s: u8, t: u8) -> u8
 }
 
 // "Not" over a set of truths.
-pub fn not_set(x: u8) -> u8
+fn not_set(x: u8) -> u8
     ensures { λ r. ⌜ r ≡ truthMask (notSet (truthsOf x)) ⌝ }
 {
     let i = (x % 4) as usize;
@@ -54,7 +54,7 @@ pub fn not_set(x: u8) -> u8
 }
 
 // "Both" over two sets of truths.
-pub fn both_set(x: u8, y: u8) -> u8
+fn both_set(x: u8, y: u8) -> u8
     ensures { λ r. ⌜ r ≡ truthMask (bothSet (truthsOf x) (truthsOf y)) ⌝ }
 {
     let i = (x % 4) as usize;
@@ -63,7 +63,7 @@ pub fn both_set(x: u8, y: u8) -> u8
 }
 
 // The set of a question where the rows that it names have the sets s and t, and the questions the sets x and y.
-pub fn truth_by(kind: Kind, s: u8, t: u8, x: u8, y: u8) -> u8
+fn truth_by(kind: Kind, s: u8, t: u8, x: u8, y: u8) -> u8
     ensures { λ r. ⌜ r ≡ truthMask (truthSetBy kind (ofMask s) (ofMask t) (truthsOf x) (truthsOf y)) ⌝ }
 {
     match kind {
@@ -79,7 +79,7 @@ pub fn truth_by(kind: Kind, s: u8, t: u8, x: u8, y: u8) -> u8
 }
 
 // The sets of the questions below a number, from a run of questions and the sets of the rows below `top`, into the front of what is lent.
-pub fn truths_below(questions: &[u8], end: usize, sets: &[u8], top: usize, truths: &mut [u8])
+pub(crate) fn truths_below(questions: &[u8], end: usize, sets: &[u8], top: usize, truths: &mut [u8])
     requires { ⌜ (3 * end ≤ length (now questions)) × (top ≤ length (now sets)) × (end ≤ length (now truths)) ⌝ }
     ensures { λ r. ⌜ now (truths .exit) ≡ map truthMask (values (asksSet (maskAt (now (sets .entry)) top)) (onlyTruth true) (entriesIn (now (questions .entry))) end) ++ drop end (now (truths .entry)) ⌝ }
 {
@@ -122,7 +122,7 @@ fn larger(x: u16, y: u16) -> u16
 }
 
 // How many rows a visit of a question looks at: those up to the highest that it reaches.
-pub fn top_of(questions: &[u8], question: usize) -> usize
+pub(crate) fn top_of(questions: &[u8], question: usize) -> usize
     requires { ⌜ (question < 256) × (3 * question + 2 < length (now questions)) ⌝ }
     ensures { λ r. ⌜ (r ≡ top (entriesIn (now (questions .entry))) question) × (r ≤ 256) ⌝ }
 {
