@@ -5,3 +5,4 @@ pub mod Words
 pub mod SetLoop
 pub mod Filling
 pub mod Notebook
+pub mod Unique

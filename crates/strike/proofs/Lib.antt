@@ -6,3 +6,4 @@ pub mod Telling
 pub mod Filling
 pub mod Answering
 pub mod Keeping
+pub mod Unique

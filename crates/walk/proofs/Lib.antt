@@ -7,3 +7,4 @@ pub mod Replies
 pub mod TruthSets
 pub mod Answers
 pub mod Budgets
+pub mod Unique
