@@ -3,5 +3,4 @@ pub mod Finite
 pub mod Codes
 pub mod Bilattice
 pub mod Formulas
-pub mod Notebook
 pub mod Unique

@@ -21,12 +21,9 @@ use Rattle.table.proofs.Numbers.{by-order}
 use Rattle.table.proofs.Laws.{used-below}
 use Rattle.decide.specs.Rows.{values, valueAt}
 use Rattle.decide.specs.Meaning.{bit, decideBy, decides, decision}
+use Rattle.decide.specs.Requests.{Agree}
 use Rattle.decide.specs.Reach.{reachBy, nowhere, reaches}
 use Rattle.decide.proofs.RowByRow.{by-rows, before-there, before-past}
-
--- two requests agree on some predicates
-abbrev pub Agree : (ℕ → Bool) → ℕ → ℕ → Type 0
-Agree on m o = (p : ℕ) → on p ≡ true → bit m p ≡ bit o p
 
 -- one row, from the rows that it names
 row-agrees : (k : Kind) (a m o : ℕ) (x y u v : Decision) (s t : ℕ → Bool) → Agree (reachBy k a s t) m o →

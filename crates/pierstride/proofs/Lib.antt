@@ -2,4 +2,3 @@
 pub mod KnownMasks
 pub mod Serving
 pub mod Unique
-pub mod Demands

@@ -1,19 +1,19 @@
--- How a service answers: from a reading that was refused, and from one that was opened.
+-- How a service answers: from a reading that was refused, and from one that was opened, by what was asked.
 -- Assumes nothing.
-use mathlib.Core.Path.{_≡_, sym, ap, _∙_}
-use mathlib.Core.Bool.{true, false}
+use mathlib.Core.Path.{_≡_, refl, sym, ap, _∙_}
+use mathlib.Core.Bool.{Bool, false}
 use mathlib.Core.List.{List}
-use Prim.Native.Nat.{ℕ, _≤_, _<_}
+use Prim.Native.Nat.{ℕ, zero, suc, _≤_, _<_}
 use native.Mathlib.Omega.{arith}
 use lib.ListN.{length, getD}
-use borrow.Author.Tests.{lt-ltb, le-ltb}
-use Rattle.belnap.specs.Decisions.{code}
+use borrow.Author.Tests.{lt-ltb, le-leb}
 use Rattle.belnap.specs.declared.Decision.{Decision}
 use Rattle.belnap.specs.declared.Decision.the-variants.{U}
 use Rattle.table.specs.declared.Table.{Table}
 use Rattle.table.specs.declared.Reading.{Reading}
 use Rattle.table.specs.Entries.{blank, predicateLimit, rowLimit, questionLimit}
-use Rattle.table.specs.Reading.{Result, refused, reading, predicates, tableOf}
+use Rattle.table.specs.Reading.{Contents, Result, reading, predicates, tableOf}
+use Rattle.table.proofs.Numbers.{by-order}
 use Rattle.table.proofs.Laws.{limits}
 use Rattle.table.proofs.Opening.{Opened, Turned}
 use Rattle.table.proofs.Padding.{padded-at}
@@ -26,93 +26,109 @@ use Rattle.walk.specs.Walk.{walk, replyOf}
 use Rattle.walk.proofs.QuestionLoop.{same-walk}
 use Rattle.pierstride.specs.declared.Refusal.{Refusal}
 use Rattle.pierstride.specs.declared.Counts.{Counts}
-use Rattle.pierstride.specs.declared.Decided.{Decided}
 use Rattle.pierstride.specs.declared.Remaining.{Remaining}
 use Rattle.pierstride.specs.Masks.{beyond, badMasks}
-use Rattle.pierstride.specs.Services.{refusalOf, countsOf, refusedDecided, decidedOf, refusedRemaining, remainingOf, refusedVerdict, repliedOf, verdictOf}
+use Rattle.pierstride.specs.Services.{Said, answered, refusing, onTable, askedWrongly, unlessWrong, refusalOf, decidedOf, remainingOf, verdictOf, repliedOf}
+use Rattle.pierstride.specs.Services.{saysRead, readAnswer, saysDecide, decideAnswer, saysPossible, possibleAnswer, saysVerdict, verdictAnswer}
 
 -- a refusal of reading's is passed on unchanged, by every service
-pub passed-on : {A : Type 0} (answer : Result → A) (refusing : ℕ → ℕ → A) → ((n p : ℕ) → answer (refused n p) ≡ refusing n p) →
-    (s : List ℕ) (r : Reading) (w : Refusal) (x : A) → Turned s r → w ≡ refusalOf (r .outcome) → x ≡ refusing (w .number) (w .place) → x ≡ answer (reading s)
-passed-on answer refusing h s r w x t e q =
-    q ∙ ap (λ (w : Refusal). refusing (w .number) (w .place)) (e ∙ ap refusalOf (t .outcome)) ∙ sym (ap answer (t .is) ∙ h (t .number) (t .place))
+pub passed-on : {A B : Type 0} (shows : Said A → B) (f : Contents → Said A) {s : List ℕ} {got : Reading} → Turned s got → (w : Refusal) (x : B) →
+    w ≡ refusalOf (got .outcome) → x ≡ shows (refusing (w .number) (w .place)) → x ≡ shows (onTable (reading s) f)
+passed-on shows f t w x e q =
+    q ∙ ap (λ (w : Refusal). shows (refusing (w .number) (w .place))) (e ∙ ap refusalOf (t .outcome)) ∙ sym (ap (λ (x : Result). shows (onTable x f)) (t .is))
+
+-- a refusal of what was asked, and none
+wrong : {A : Type 0} (n : ℕ) (v : A) → (n ≡ 0 → ⊥) → unlessWrong n v ≡ refusing n 0
+wrong zero v h = absurd (h refl)
+wrong (suc n) v h = refl
+
+right : {A : Type 0} (n : ℕ) (v : A) → n ≡ 0 → unlessWrong n v ≡ answered v
+right n v e = rw e
+
+pub asked-there : (count at : ℕ) (bad : Bool) → askedWrongly count at bad ≡ 0 → at < count
+unfolding askedWrongly
+asked-there count at bad e = by-order at count (λ h. h) (λ h. absurd (let z : _≡_ {A = ℕ} 8 0 = rw (le-leb count at h) at e in omega arith))
 
 -- the struct of an opened reading shows the table's contents
-module _ (s : List ℕ) (r : Reading) (o : Opened s r) where
-  pub used-is : r .table .used ≡ length (o .contents .rows)
+module _ {s : List ℕ} {got : Reading} (o : Opened s got) where
+  pub used-is : got .table .used ≡ length (o .contents .rows)
   unfolding tableOf
   used-is = ap (λ (t : Table). t .used) (o .table)
 
-  pub asked-is : r .table .asked ≡ length (o .contents .questions)
+  pub asked-is : got .table .asked ≡ length (o .contents .questions)
   unfolding tableOf
   asked-is = ap (λ (t : Table). t .asked) (o .table)
 
-  pub predicates-is : r .table .predicates ≡ predicates (o .contents .rows)
+  pub predicates-is : got .table .predicates ≡ predicates (o .contents .rows)
   unfolding tableOf
   predicates-is = ap (λ (t : Table). t .predicates) (o .table)
 
-  rows-at : (i : ℕ) → getD (r .table .rows) i blank ≡ getD (o .contents .rows) i blank
+  rows-at : (i : ℕ) → getD (got .table .rows) i blank ≡ getD (o .contents .rows) i blank
   unfolding tableOf
   rows-at i = ap (λ (t : Table). getD (t .rows) i blank) (o .table) ∙ padded-at blank rowLimit (o .contents .rows) i
 
-  questions-at : (i : ℕ) → getD (r .table .questions) i blank ≡ getD (o .contents .questions) i blank
+  questions-at : (i : ℕ) → getD (got .table .questions) i blank ≡ getD (o .contents .questions) i blank
   unfolding tableOf
   questions-at i = ap (λ (t : Table). getD (t .questions) i blank) (o .table) ∙ padded-at blank questionLimit (o .contents .questions) i
 
-  -- what each service answers of an accepted table
-  pub counts-answer : _≡_ {A = Counts} (record { refusal = 0; place = 0; rows = r .table .used; questions = r .table .asked; predicates = r .table .predicates }) (countsOf (reading s))
-  unfolding countsOf
+  -- what each service answers of it
+  pub counts-answer : _≡_ {A = Counts} (record { refusal = 0; place = 0; rows = got .table .used; questions = got .table .asked; predicates = got .table .predicates }) (readAnswer s)
+  unfolding saysRead
   counts-answer = rw (o .is, used-is, asked-is, predicates-is)
 
-  module _ (at request : ℕ) where
-    pub decided-missing : r .table .used ≤ at → refusedDecided 8 0 ≡ decidedOf (reading s) at request
-    unfolding decidedOf
-    decided-missing h = rw (o .is) (simp (le-ltb _ _ (rw used-is at h)))
+  -- a number that no table has room for is not among the rows
+  row-there : (at why : ℕ) (bad : Bool) → why ≡ askedWrongly (got .table .used) at bad → why ≡ 0 → at < rowLimit
+  row-there at why bad w e = omega (arith, asked-there (got .table .used) at bad (sym w ∙ e), used-is, o .whole .rows-fit)
 
-    pub decided-beyond : at < r .table .used → beyond request ≡ true → refusedDecided 10 0 ≡ decidedOf (reading s) at request
-    unfolding decidedOf
-    decided-beyond h e = rw (o .is, lt-ltb _ _ (rw used-is at h), e)
+  -- `why` is what the code found wrong with what was asked, from whether it found the masks bad
+  module _ (at request why : ℕ) (bad : Bool) (b : bad ≡ beyond request) (w : why ≡ askedWrongly (got .table .used) at bad) where
+    decide-said : saysDecide s at request ≡ unlessWrong why (decision (o .contents .rows) request at)
+    unfolding saysDecide
+    decide-said = rw (o .is, w, b, used-is)
 
-    pub decided-answer : (v : Decision) (n : ℕ) → at < r .table .used → beyond request ≡ false → v ≡ decisionIn (r .table .rows) request at → n ≡ code v →
-        _≡_ {A = Decided} (record { refusal = 0; place = 0; code = n }) (decidedOf (reading s) at request)
-    unfolding decidedOf
-    decided-answer v n h e q c =
-        let l : at < length (o .contents .rows) = rw used-is at h in
-        let d : v ≡ decision (o .contents .rows) request at =
-        q ∙ rw (lt-ltb at rowLimit (omega (arith, l, o .whole .rows-fit))) (same-value (decides request) U (r .table .rows) (o .contents .rows) at (λ i k. rows-at i)) in
-        rw (o .is, lt-ltb _ _ l, e, c, d)
+    pub decide-refuses : (why ≡ 0 → ⊥) → decidedOf (refusing why 0) ≡ decideAnswer s at request
+    decide-refuses h = sym (ap decidedOf (decide-said ∙ wrong why _ h))
 
-  module _ (at known request : ℕ) where
-    pub set-missing : r .table .used ≤ at → refusedRemaining 8 0 ≡ remainingOf (reading s) at known request
-    unfolding remainingOf
-    set-missing h = rw (o .is) (simp (le-ltb _ _ (rw used-is at h)))
+    pub decide-answers : why ≡ 0 → (v : Decision) → v ≡ decisionIn (got .table .rows) request at → decidedOf (answered v) ≡ decideAnswer s at request
+    decide-answers e v q =
+        let same = same-value (decides request) U (got .table .rows) (o .contents .rows) at (λ i k. rows-at i) in
+        let d : v ≡ decision (o .contents .rows) request at = q ∙ rw (lt-ltb at rowLimit (row-there at why bad w e)) same in
+        sym (ap decidedOf (decide-said ∙ right why _ e ∙ ap answered (sym d)))
 
-    pub set-beyond : at < r .table .used → badMasks known request ≡ true → refusedRemaining 10 0 ≡ remainingOf (reading s) at known request
-    unfolding remainingOf
-    set-beyond h e = rw (o .is, lt-ltb _ _ (rw used-is at h), e)
+  module _ (at known request why : ℕ) (bad : Bool) (b : bad ≡ badMasks known request) (w : why ≡ askedWrongly (got .table .used) at bad) where
+    possible-said : saysPossible s at known request ≡ unlessWrong why (possible (o .contents .rows) known request at)
+    unfolding saysPossible
+    possible-said = rw (o .is, w, b, used-is)
 
-    pub set-answer : (n : ℕ) → at < r .table .used → badMasks known request ≡ false → n ≡ mask (possibleIn (r .table .rows) known request at) →
-        _≡_ {A = Remaining} (record { refusal = 0; place = 0; set = n }) (remainingOf (reading s) at known request)
-    unfolding remainingOf
-    set-answer n h e q =
-        let l : at < length (o .contents .rows) = rw used-is at h in
-        let d : n ≡ mask (possible (o .contents .rows) known request at) =
-        q ∙ rw (lt-ltb at rowLimit (omega (arith, l, o .whole .rows-fit))) (ap mask (same-value (setOf known request) (single U) (r .table .rows) (o .contents .rows) at (λ i k. rows-at i))) in
-        rw (o .is, lt-ltb _ _ l, e, d)
+    pub possible-refuses : (why ≡ 0 → ⊥) → remainingOf (refusing why 0) ≡ possibleAnswer s at known request
+    possible-refuses h = sym (ap remainingOf (possible-said ∙ wrong why _ h))
 
-  module _ (at budget : ℕ) where
-    pub verdict-missing : r .table .asked ≤ at → refusedVerdict 8 0 ≡ verdictOf (reading s) at budget
-    unfolding verdictOf
-    verdict-missing h = rw (o .is) (simp (le-ltb _ _ (rw asked-is at h)))
+    pub possible-answers : why ≡ 0 → (n : ℕ) → n ≡ mask (possibleIn (got .table .rows) known request at) →
+        _≡_ {A = Remaining} (record { refusal = 0; place = 0; set = n }) (possibleAnswer s at known request)
+    possible-answers e n q =
+        let same = same-value (setOf known request) (single U) (got .table .rows) (o .contents .rows) at (λ i k. rows-at i) in
+        let d : n ≡ mask (possible (o .contents .rows) known request at) = q ∙ rw (lt-ltb at rowLimit (row-there at why bad w e)) (ap mask same) in
+        rw d (sym (ap remainingOf (possible-said ∙ right why _ e)))
 
-    pub verdict-answer : (p : Reply) → at < r .table .asked → p ≡ replyOf budget (walk (r .table .rows) (r .table .questions) (r .table .predicates) at) → repliedOf p ≡ verdictOf (reading s) at budget
-    unfolding verdictOf
-    verdict-answer p h q =
-        let l : at < length (o .contents .questions) = rw asked-is at h in
-        let w = same-walk (r .table .rows) (o .contents .rows) (r .table .questions) (o .contents .questions) rows-at questions-at (predicates (o .contents .rows)) at in
-        rw (o .is, lt-ltb _ _ l, q, predicates-is, w)
+  module _ (at budget why : ℕ) (w : why ≡ askedWrongly (got .table .asked) at false) where
+    abbrev walked : Reply
+    walked = replyOf budget (walk (o .contents .rows) (o .contents .questions) (predicates (o .contents .rows)) at)
 
-    pub verdict-fits : at < r .table .asked → (at < questionLimit) × (r .table .predicates ≤ predicateLimit)
-    verdict-fits h =
-        let l : at < length (o .contents .questions) = rw asked-is at h in
-        (omega (arith, l, o .whole .questions-fit), rw predicates-is (limits s (o .contents) (o .is) .3))
+    verdict-said : saysVerdict s at budget ≡ unlessWrong why walked
+    unfolding saysVerdict
+    verdict-said = rw (o .is, w, asked-is)
+
+    pub verdict-refuses : (why ≡ 0 → ⊥) → verdictOf (refusing why 0) ≡ verdictAnswer s at budget
+    verdict-refuses h = sym (ap verdictOf (verdict-said ∙ wrong why _ h))
+
+    pub verdict-answers : why ≡ 0 → (p : Reply) → p ≡ replyOf budget (walk (got .table .rows) (got .table .questions) (got .table .predicates) at) →
+        repliedOf p ≡ verdictAnswer s at budget
+    verdict-answers e p q =
+        let same = same-walk (got .table .rows) (o .contents .rows) (got .table .questions) (o .contents .questions) rows-at questions-at (predicates (o .contents .rows)) at in
+        let d : p ≡ walked = q ∙ rw predicates-is (ap (replyOf budget) same) in
+        rw d (sym (ap verdictOf (verdict-said ∙ right why _ e)))
+
+    pub verdict-fits : why ≡ 0 → (at < questionLimit) × (got .table .predicates ≤ predicateLimit)
+    verdict-fits e =
+        let l = asked-there (got .table .asked) at false (sym w ∙ e) in
+        (omega (arith, l, asked-is, o .whole .questions-fit), rw predicates-is (limits s (o .contents) (o .is) .3))

@@ -5,11 +5,9 @@ use table::Outcome;
 use table::lookup::Place;
 use walk::Reply;
 ghost use mathlib.Core.Path.{_≡_};
-ghost use lib.ListN.{length};
-ghost use Rattle.table.specs.Reading.{reading};
-ghost use Rattle.strike.specs.Strike.{struckAnswer, struckOutput};
 ghost use Rattle.pierstride.specs.Masks.{beyond, knownBelow, badMasks};
-ghost use Rattle.pierstride.specs.Services.{refusalOf, refusedCounts, countsOf, refusedDecided, decidedOf, refusedRemaining, remainingOf, refusedVerdict, repliedOf, verdictOf, locatedOf, closedOf};
+ghost use Rattle.pierstride.specs.Services.{refusing, refusalOf, askedWrongly, countsOf, decidedOf, remainingOf, verdictOf, repliedOf};
+ghost use Rattle.pierstride.specs.Services.{readAnswer, decideAnswer, possibleAnswer, verdictAnswer, entryAnswer, strikeAnswer, strikeOutput};
 
 // A refusal's number and place.
 pub struct Refusal {
@@ -87,7 +85,7 @@ fn refusal_of(outcome: Outcome) -> Refusal
 }
 
 fn no_counts(r: Refusal) -> Counts
-    ensures { λ x. ⌜ x ≡ refusedCounts (r .number) (r .place) ⌝ }
+    ensures { λ x. ⌜ x ≡ countsOf (refusing (r .number) (r .place)) ⌝ }
 {
     Counts {
         refusal: r.number,
@@ -99,7 +97,7 @@ fn no_counts(r: Refusal) -> Counts
 }
 
 fn no_decision(r: Refusal) -> Decided
-    ensures { λ x. ⌜ x ≡ refusedDecided (r .number) (r .place) ⌝ }
+    ensures { λ x. ⌜ x ≡ decidedOf (refusing (r .number) (r .place)) ⌝ }
 {
     Decided {
         refusal: r.number,
@@ -109,7 +107,7 @@ fn no_decision(r: Refusal) -> Decided
 }
 
 fn no_set(r: Refusal) -> Remaining
-    ensures { λ x. ⌜ x ≡ refusedRemaining (r .number) (r .place) ⌝ }
+    ensures { λ x. ⌜ x ≡ remainingOf (refusing (r .number) (r .place)) ⌝ }
 {
     Remaining {
         refusal: r.number,
@@ -119,7 +117,7 @@ fn no_set(r: Refusal) -> Remaining
 }
 
 fn no_verdict(r: Refusal) -> Verdict
-    ensures { λ x. ⌜ x ≡ refusedVerdict (r .number) (r .place) ⌝ }
+    ensures { λ x. ⌜ x ≡ verdictOf (refusing (r .number) (r .place)) ⌝ }
 {
     Verdict {
         refusal: r.number,
@@ -133,7 +131,7 @@ fn no_verdict(r: Refusal) -> Verdict
 // The table's rows, questions and n.
 #[no_mangle]
 pub extern "C" fn pier_read(table: &[u8]) -> Counts
-    ensures { λ r. ⌜ r ≡ countsOf (reading (now (table .entry))) ⌝ }
+    ensures { λ r. ⌜ r ≡ readAnswer (now (table .entry)) ⌝ }
 {
     let got = table::read(table);
     let outcome = got.outcome;
@@ -157,10 +155,20 @@ fn mask_beyond(mask: u32) -> bool
     16777216 <= mask
 }
 
+// Why what was asked is not answered: 8 where there are too few rows or questions, then 10 where the masks are bad; 0 for neither.
+fn asked_wrongly(count: usize, at: usize, bad: bool) -> u32
+    ensures { λ r. ⌜ r ≡ askedWrongly count at bad ⌝ }
+{
+    if count <= at {
+        return 8;
+    }
+    if bad { 10 } else { 0 }
+}
+
 // What a row decides at a complete request, given as its yes mask.
 #[no_mangle]
 pub extern "C" fn pier_decide(table: &[u8], row: u32, request: u32) -> Decided
-    ensures { λ r. ⌜ r ≡ decidedOf (reading (now (table .entry))) row request ⌝ }
+    ensures { λ r. ⌜ r ≡ decideAnswer (now (table .entry)) row request ⌝ }
 {
     let got = table::read(table);
     let outcome = got.outcome;
@@ -169,15 +177,10 @@ pub extern "C" fn pier_decide(table: &[u8], row: u32, request: u32) -> Decided
     };
     let t = got.table;
     let at = row as usize;
-    if t.used <= at {
+    let why = asked_wrongly(t.used, at, mask_beyond(request));
+    if why != 0 {
         return no_decision(Refusal {
-            number: 8,
-            place: 0,
-        });
-    }
-    if mask_beyond(request) {
-        return no_decision(Refusal {
-            number: 10,
+            number: why,
             place: 0,
         });
     }
@@ -213,7 +216,7 @@ fn masks_bad(known: u32, request: u32) -> bool
 // Which decisions remain possible for a row, with these predicates known and these of them yes.
 #[no_mangle]
 pub extern "C" fn pier_possible(table: &[u8], row: u32, known: u32, request: u32) -> Remaining
-    ensures { λ r. ⌜ r ≡ remainingOf (reading (now (table .entry))) row known request ⌝ }
+    ensures { λ r. ⌜ r ≡ possibleAnswer (now (table .entry)) row known request ⌝ }
 {
     let got = table::read(table);
     let outcome = got.outcome;
@@ -222,15 +225,10 @@ pub extern "C" fn pier_possible(table: &[u8], row: u32, known: u32, request: u32
     };
     let t = got.table;
     let at = row as usize;
-    if t.used <= at {
+    let why = asked_wrongly(t.used, at, masks_bad(known, request));
+    if why != 0 {
         return no_set(Refusal {
-            number: 8,
-            place: 0,
-        });
-    }
-    if masks_bad(known, request) {
-        return no_set(Refusal {
-            number: 10,
+            number: why,
             place: 0,
         });
     }
@@ -274,7 +272,7 @@ fn replied(reply: Reply) -> Verdict
 // The verdict on a question, within a budget of visits.
 #[no_mangle]
 pub extern "C" fn pier_verdict(table: &[u8], question: u32, budget: u32) -> Verdict
-    ensures { λ r. ⌜ r ≡ verdictOf (reading (now (table .entry))) question budget ⌝ }
+    ensures { λ r. ⌜ r ≡ verdictAnswer (now (table .entry)) question budget ⌝ }
 {
     let got = table::read(table);
     let outcome = got.outcome;
@@ -283,9 +281,10 @@ pub extern "C" fn pier_verdict(table: &[u8], question: u32, budget: u32) -> Verd
     };
     let t = got.table;
     let at = question as usize;
-    if t.asked <= at {
+    let why = asked_wrongly(t.asked, at, false);
+    if why != 0 {
         return no_verdict(Refusal {
-            number: 8,
+            number: why,
             place: 0,
         });
     }
@@ -295,7 +294,7 @@ pub extern "C" fn pier_verdict(table: &[u8], question: u32, budget: u32) -> Verd
 // Where a row's own bytes stand in the table.
 #[no_mangle]
 pub extern "C" fn pier_entry(table: &[u8], row: u32) -> Located
-    ensures { λ r. ⌜ r ≡ locatedOf (reading (now (table .entry))) row ⌝ }
+    ensures { λ r. ⌜ r ≡ entryAnswer (now (table .entry)) row ⌝ }
 {
     let found = table::lookup::find(table, row);
     match found {
@@ -317,7 +316,7 @@ pub extern "C" fn pier_entry(table: &[u8], row: u32) -> Located
 // The table without a row, over the front of the lent output; a refusal changes no lent byte.
 #[no_mangle]
 pub extern "C" fn pier_strike(table: &[u8], row: u32, out: &mut [u8]) -> Closed
-    ensures { λ r. ⌜ (r ≡ closedOf (struckAnswer (reading (now (table .entry))) row (length (now (out .entry))))) × (now (out .exit) ≡ struckOutput (reading (now (table .entry))) row (now (out .entry))) ⌝ }
+    ensures { λ r. ⌜ (r ≡ strikeAnswer (now (table .entry)) row (now (out .entry))) × (now (out .exit) ≡ strikeOutput (now (table .entry)) row (now (out .entry))) ⌝ }
 {
     let struck = strike::strike(table, row, out);
     match struck {

@@ -18,14 +18,11 @@ use Rattle.table.specs.Entries.{blank, usedBy}
 use Rattle.table.specs.Reading.{predicates}
 use Rattle.table.proofs.Laws.{used-below}
 use Rattle.decide.specs.Meaning.{bit, decideBy, decides, decision}
+use Rattle.decide.specs.Requests.{Fills, Learns, AllKnown}
 use Rattle.decide.proofs.RowByRow.{side-by-side}
 use Rattle.possible.specs.Sets.{Set, has, Within, single, either, imageOne, imageTwo}
 use Rattle.possible.specs.Possible.{factSet, setBy, setOf, possible}
 use Rattle.possible.proofs.Images.{single-has, either-left, either-right, one-has, two-has, one-single, two-single, one-within, two-within}
-
--- a request fills the missing facts in: it says of each known predicate what is known
-abbrev pub Fills : ℕ → ℕ → ℕ → Type 0
-Fills known request o = (p : ℕ) → bit known p ≡ true → bit o p ≡ bit request p
 
 -- a fact's set has what a filling decides
 fact-has : (v : Decision) (p known request o : ℕ) → Fills known request o → has (factSet v p known request) (cond (bit o p) v U) ≡ true
@@ -62,9 +59,6 @@ pub member-there : (rows : List Entry) (known request r : ℕ) → has (possible
 member-there rows known request r = filling-member rows known request request r (λ p e. refl)
 
 -- facts are learnt while the known ones stand
-abbrev pub Learns : ℕ → ℕ → ℕ → ℕ → Type 0
-Learns known request more then = (p : ℕ) → bit known p ≡ true → (bit more p ≡ true) × (bit then p ≡ bit request p)
-
 fact-within : (v : Decision) (p known request more then : ℕ) → Learns known request more then → Within (factSet v p more then) (factSet v p known request)
 unfolding factSet
 fact-within v p known request more then h = go (bit known p) refl (bit more p) refl
@@ -99,7 +93,7 @@ learning-adds-none rows known request more then r h =
     (λ i s t u v p q. row-within (getD rows i blank .kind) (getD rows i blank .a) known request more then h s t u v p q) r
 
 -- nothing that the rows use is unknown
-row-exact : (k : Kind) (a n known request : ℕ) → ((p : ℕ) → p < n → bit known p ≡ true) → usedBy (formOf k .names) a ≤ n →
+row-exact : (k : Kind) (a n known request : ℕ) → AllKnown n known → usedBy (formOf k .names) a ≤ n →
     (x y : Decision) (s t : Set) → s ≡ single x → t ≡ single y → setBy k a known request s t ≡ single (decideBy k a request x y)
 unfolding setBy decideBy factSet
 row-exact (Always w) a n known request h u x y s t p q = refl
@@ -111,7 +105,7 @@ row-exact (Compare c) a n known request h u x y s t p q = refl
 row-exact Not a n known request h u x y s t p q = refl
 row-exact Both a n known request h u x y s t p q = refl
 
-pub known-exact : (rows : List Entry) (known request r : ℕ) → ((p : ℕ) → p < predicates rows → bit known p ≡ true) →
+pub known-exact : (rows : List Entry) (known request r : ℕ) → AllKnown (predicates rows) known →
     possible rows known request r ≡ single (decision rows request r)
 known-exact rows known request r h =
     side-by-side (λ s x. s ≡ single x) (setOf known request) (decides request) (single U) U rows refl

@@ -1,28 +1,52 @@
--- The cases that 01's notebook marks P, as one table under one claim about the definitions: those about decisions, and the set of a row from the bytes on.
+-- The cases that 01's notebook marks P, as one table under one claim about the definitions.
 -- Assumes nothing.
 use Prim.Native.Nat.{ℕ}
+use mathlib.Core.Bool.{cond}
 use mathlib.Core.Path.{_≡_, refl}
 use mathlib.Core.List.{List, [], _∷_, _++_, map}
-use Rattle.belnap.proofs.Notebook as decisions
-use Rattle.belnap.proofs.Notebook.{Case}
+use Rattle.belnap.specs.declared.Decision.{Decision}
+use Rattle.belnap.specs.declared.Decision.the-variants.{U, D, G, C}
+use Rattle.belnap.specs.Operators.{conflation, openDefault, truthMeet, truthJoin, knowledgeMeet, knowledgeJoin, implication, guard, override}
 use Rattle.table.specs.Kinds.{kindOf}
 use Rattle.table.specs.Entries.{noRoom, bodyStep, stepBy, stepOf}
 use Rattle.table.specs.Reading.{Result, accepted, refused, after, readOn, reading}
 use Rattle.decide.specs.Rows.{values, valueAt}
 use Rattle.decide.specs.Meaning.{bit}
-use Rattle.possible.specs.Sets.{over, imageOne, imageTwo, mask}
+use Rattle.possible.specs.Sets.{Set, has, ofMask, over, imageOne, imageTwo}
 use Rattle.possible.specs.Possible.{factSet, setBy, possible}
 
--- a row's set with nothing known, as a mask; 0 where the table is refused
-abbrev unknownSet : Result → ℕ → ℕ
-unknownSet (accepted c) r = mask (possible (c .rows) 0 0 r)
-unknownSet (refused n p) r = 0
+-- the decisions that the definitions bring, and those that the notebook states
+record Case : Type 0 where
+  brought : List Decision
+  stated : List Decision
 
-abbrev pub cases : List Case
+abbrev is : Decision → Decision → Case
+is x y = record { brought = x ∷ []; stated = y ∷ [] }
+
+-- the members of a set, in the order of their codes
+abbrev member : Set → Decision → List Decision
+member s v = cond (has s v) (v ∷ []) []
+
+abbrev members : Set → List Decision
+members s = member s U ++ (member s D ++ (member s G ++ member s C))
+
+-- the decisions that remain possible for a row with nothing known; none where the table is refused
+abbrev remaining : Result → ℕ → List Decision
+remaining (accepted c) r = members (possible (c .rows) 0 0 r)
+remaining (refused n p) r = []
+
+abbrev cases : List Case
 cases =
+    -- "c implies d is d; u implies d is g; u guards g is u; c guards g is g"
+    is (implication C D) D ∷ is (implication U D) G ∷ is (guard U G) U ∷ is (guard C G) G ∷
+    -- "truth meet of u and c is d; truth join of them is g; g and d give c by knowledge join and u by knowledge meet"
+    is (truthMeet U C) D ∷ is (truthJoin U C) G ∷ is (knowledgeJoin G D) C ∷ is (knowledgeMeet G D) U ∷
+    -- "conflation of u is c; override of c by g, on c, is g; open default of c is g"
+    is (conflation U) C ∷ is (override C C G) G ∷ is (openDefault C) G ∷
     -- "`11 00 01 34 00 01`, row 2, nothing known: the set is 6 (d and g)"
-    decisions.cases ++ (record { computed = unknownSet (reading (0x11 ∷ 0x00 ∷ 0x01 ∷ 0x34 ∷ 0x00 ∷ 0x01 ∷ [])) 2; stated = 6 } ∷ [])
+    record { brought = remaining (reading (0x11 ∷ 0x00 ∷ 0x01 ∷ 0x34 ∷ 0x00 ∷ 0x01 ∷ [])) 2; stated = members (ofMask 6) } ∷
+    record { brought = members (ofMask 6); stated = D ∷ G ∷ [] } ∷ []
 
-pub right : map (λ c. c .computed) cases ≡ map (λ c. c .stated) cases
-unfolding reading readOn after stepOf stepBy kindOf noRoom bodyStep values valueAt bit factSet setBy over imageOne imageTwo mask
+pub right : map (λ c. c .brought) cases ≡ map (λ c. c .stated) cases
+unfolding reading readOn after stepOf stepBy kindOf noRoom bodyStep values valueAt bit factSet setBy over imageOne imageTwo ofMask
 right = refl

@@ -15,10 +15,13 @@ use Rattle.table.specs.declared.kinds.Kind.the-variants.{Always, DenyIf,
 use Rattle.table.specs.declared.kinds.Announced.{Announced}
 use Rattle.table.specs.declared.kinds.Announced.the-variants.{Listed, Unlisted}
 use Rattle.table.specs.declared.entries.Entry.{Entry}
-use Rattle.table.specs.declared.entries.Step.the-variants.{Bad}
+use Rattle.table.specs.declared.kinds.Names.{Names}
+use Rattle.table.specs.declared.kinds.Names.the-variants.{Nothing, Predicates, Rows, Questions}
+use Rattle.table.specs.declared.entries.Step.{Step}
+use Rattle.table.specs.declared.entries.Step.the-variants.{Row, Question, Bad}
 use Rattle.table.specs.Kinds.{kindOf, formOf}
-use Rattle.table.specs.Entries.{predicateLimit, rowLimit, questionLimit, blank, bytesOf, uses, usedBy, noRoom, limit, numberAt, named, bodyStep, unless, stepBy, stepOf}
-use Rattle.table.specs.Reading.{Contents, none, accepted, refused, after, readOn, reading, predicates, written}
+use Rattle.table.specs.Entries.{predicateLimit, rowLimit, questionLimit, blank, bytesOf, uses, usedBy, isRow, noRoom, limit, misnamed, numberAt, named, placed, bodyStep, unless, stepBy, stepOf}
+use Rattle.table.specs.Reading.{Contents, none, accepted, refused, after, readOn, reading, ofReading, isAmong, predicates, written}
 use Rattle.table.proofs.OneEntry.{few, length-bytes, body-cut}
 use Rattle.table.proofs.Writing.{entries, Sound, Each, each-get, Stopped, of-accepted, of-refused, read-past, whole-accepted}
 
@@ -121,6 +124,57 @@ step-kept k rest more rows questions n h q = go (kindOf k) q
         full zero q = body-kept kind rest more rows questions n h q
         full (suc z) q = q
 
+-- a step that refuses gives one of reading's numbers
+abbrev numbered : Step → Bool
+numbered (Row e) = true
+numbered (Question e) = true
+numbered (Bad n) = isAmong ofReading n
+
+room-numbered : (row : Bool) (rows questions : ℕ) (step : Step) → numbered step ≡ true → numbered (unless (noRoom row rows questions) step) ≡ true
+unfolding noRoom
+room-numbered true rows questions step h = go (ltb 0 questions) (ltb rows rowLimit)
+  where
+    go : (a b : Bool) → numbered (unless (cond a 5 (cond b 0 6)) step) ≡ true
+    go true b = refl
+    go false true = h
+    go false false = refl
+room-numbered false rows questions step h = go (ltb questions questionLimit)
+  where
+    go : (a : Bool) → numbered (unless (cond a 0 7) step) ≡ true
+    go true = h
+    go false = refl
+
+body-numbered : (kind : Kind) (body : List ℕ) (rows questions : ℕ) → numbered (bodyStep kind body rows questions) ≡ true
+unfolding bodyStep
+body-numbered kind body rows questions =
+    let form = formOf kind in
+    let a = numberAt (form .numbers) 0 body in
+    let b = numberAt (form .numbers) 1 body in
+    cut (ltb (length body) (form .numbers)) (named (form .numbers) (limit (form .names) rows questions) a b) (record { kind = kind; a = a; b = b })
+  where
+    misnamed-numbered : (names : Names) → isAmong ofReading (misnamed names) ≡ true
+    misnamed-numbered Nothing = refl
+    misnamed-numbered Predicates = refl
+    misnamed-numbered Rows = refl
+    misnamed-numbered Questions = refl
+
+    placed-numbered : (row : Bool) (e : Entry) → numbered (cond row (Row e) (Question e)) ≡ true
+    placed-numbered true e = refl
+    placed-numbered false e = refl
+
+    cut : (a b : Bool) (e : Entry) → numbered (cond a (Bad 2) (cond b (placed e) (Bad (misnamed (formOf kind .names))))) ≡ true
+    cut true b e = refl
+    cut false true e = placed-numbered (isRow e) e
+    cut false false e = misnamed-numbered (formOf kind .names)
+
+step-numbered : (k : ℕ) (body : List ℕ) (rows questions : ℕ) → numbered (stepOf k body rows questions) ≡ true
+unfolding stepOf stepBy
+step-numbered k body rows questions = go (kindOf k)
+  where
+    go : (a : Announced) → numbered (stepBy a body rows questions) ≡ true
+    go Unlisted = refl
+    go (Listed kind) = room-numbered (formOf kind .row) rows questions (bodyStep kind body rows questions) (body-numbered kind body rows questions)
+
 -- a refused table
 module _ (s : List ℕ) (n p : ℕ) (q : reading s ≡ refused n p) where
   stop : Stopped none s n p
@@ -140,6 +194,14 @@ module _ (s : List ℕ) (n p : ℕ) (q : reading s ≡ refused n p) where
   kind-here : getD s p 0 ≡ stop .kind
   unfolding before
   kind-here = ap (λ (l : List ℕ). getD l p 0) (sym bytes) ∙ getD-at before (stop .kind) (stop .rest) 0 p (sym (stop .place))
+
+  -- the refusal's number is one of reading's, and its place lies within the table
+  pub refused-within : (isAmong ofReading n ≡ true) × (p < length s)
+  unfolding before
+  refused-within = (
+    rw (stop .bad) at (step-numbered (stop .kind) (stop .rest) (length (stop .before .rows)) (length (stop .before .questions))),
+    omega (arith, stop .place, length-append before (stop .kind ∷ stop .rest), ap length bytes),
+  )
 
   -- the bytes before the refused entry are an accepted table
   pub before-refused : (c : Contents) × (reading (take p s) ≡ accepted c)

@@ -1,7 +1,9 @@
 -- A table as it is read, entry by entry from the front (01, "The table, byte by byte" and "When we say no").
 use Prim.Native.Nat.{ℕ, zero, suc, _+_, _-_, max}
+use mathlib.Core.Bool.{Bool, false, _||_}
 use mathlib.Core.List.{List, [], _∷_, _++_}
 use lib.ListN.{length, drop, replicate}
+use lib.Dec.{eqb}
 use Rattle.table.specs.declared.entries.Entry.{Entry}
 use Rattle.table.specs.declared.entries.Step.{Step}
 use Rattle.table.specs.declared.entries.Step.the-variants.{Row, Question, Bad}
@@ -45,6 +47,15 @@ readOn (suc more) c at (k ∷ s) =
 -- "all of 1 to 7 are looked for entry by entry from the front, so the first bad entry speaks"; n bytes hold at most n entries
 unfoldable pub reading : List ℕ → Result
 reading s = readOn (length s) none 0 s
+
+-- the numbers of reading's refusals, in the order in which they are looked for at an entry
+abbrev pub ofReading : List ℕ
+ofReading = 1 ∷ 5 ∷ 6 ∷ 7 ∷ 2 ∷ 3 ∷ 4 ∷ []
+
+-- whether a number stands in a list
+abbrev pub isAmong : List ℕ → ℕ → Bool
+isAmong [] n = false
+isAmong (m ∷ more) n = eqb n m || isAmong more n
 
 -- "n is one more than the highest predicate that any row uses, and 0 if none does."
 unfoldable pub predicates : List Entry → ℕ

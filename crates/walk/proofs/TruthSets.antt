@@ -17,13 +17,14 @@ use Rattle.table.specs.declared.entries.Entry.{Entry}
 use Rattle.table.specs.Entries.{blank}
 use Rattle.table.specs.Reading.{predicates}
 use Rattle.decide.specs.Meaning.{bit}
+use Rattle.decide.specs.Requests.{Fills, Learns, AllKnown}
 use Rattle.decide.proofs.RowByRow.{side-by-side}
 use Rattle.decide.proofs.Independence.{beyond-n}
 use Rattle.possible.specs.Sets.{Set, has, Within, single, some}
 use Rattle.possible.specs.Possible.{possible}
 use Rattle.possible.proofs.Images.{some-of, which, single-has, single-is}
-use Rattle.possible.proofs.Filling.{Fills, Learns, filling-member, learning-adds-none, known-exact}
-use Rattle.walk.specs.Questions.{truthBy, asks, truth, Truths, hasTruth, thoseTruths, someTruth, onlyTruth, compareSet, notSet, bothSet, truthSetBy, asksSet, truthSet}
+use Rattle.possible.proofs.Filling.{filling-member, learning-adds-none, known-exact}
+use Rattle.walk.specs.Questions.{truthBy, asks, truth, Truths, hasTruth, thoseTruths, someTruth, onlyTruth, compareSet, notSet, bothSet, truthSetBy, asksSet, truthSet, TruthsWithin}
 
 -- membership is the test, and some truth passes a test if one does, and then there is one that does
 has-those : (p : Bool → Bool) (b : Bool) → hasTruth (thoseTruths p) b ≡ p b
@@ -106,9 +107,6 @@ filling-truth rows questions known request o j h =
     question-has (e .kind) _ _ _ _ x y p q (filling-member rows known request o (e .a) h) (filling-member rows known request o (e .b) h) a b) j
 
 -- learning a fact adds none
-abbrev pub TruthsWithin : Truths → Truths → Type 0
-TruthsWithin x y = (b : Bool) → hasTruth x b ≡ true → hasTruth y b ≡ true
-
 question-within : (k : Kind) (s t u v : Set) (x y p q : Truths) → Within s u → Within t v → TruthsWithin x p → TruthsWithin y q →
     TruthsWithin (truthSetBy k s t x y) (truthSetBy k u v p q)
 unfolding truthSetBy
@@ -166,7 +164,7 @@ question-exact k s t u v x y p q a b c d =
     (question-has k (single u) (single v) u v p q (onlyTruth p) (onlyTruth q) (single-has u) (single-has v) (only-has p) (only-has q))
     (question-only k u v p q))
 
-pub known-truth : (rows questions : List Entry) (known request j : ℕ) → ((p : ℕ) → p < predicates rows → bit known p ≡ true) →
+pub known-truth : (rows questions : List Entry) (known request j : ℕ) → AllKnown (predicates rows) known →
     truthSet rows questions known request j ≡ onlyTruth (truth rows questions request j)
 known-truth rows questions known request j h =
     side-by-side (λ s b. s ≡ onlyTruth b) (asksSet (possible rows known request)) (asks rows request) (onlyTruth true) true questions refl

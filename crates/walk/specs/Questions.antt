@@ -1,5 +1,6 @@
 -- A question at one request, and with facts missing (01, "The four decisions" and "Missing facts").
 use Prim.Native.Nat.{ℕ, _+_, _/_, _%_, max}
+use mathlib.Core.Path.{_≡_}
 use mathlib.Core.Bool.{Bool, true, false, cond, not, _&&_, _||_}
 use mathlib.Core.List.{List}
 use lib.ListN.{getD, take}
@@ -45,6 +46,10 @@ pub record Truths : Type 0 where
 abbrev pub hasTruth : Truths → Bool → Bool
 hasTruth t true = t .holds
 hasTruth t false = t .breaks
+
+-- each truth of the first is one of the second
+abbrev pub TruthsWithin : Truths → Truths → Type 0
+TruthsWithin x y = (b : Bool) → hasTruth x b ≡ true → hasTruth y b ≡ true
 
 abbrev pub thoseTruths : (Bool → Bool) → Truths
 thoseTruths p = record { holds = p true; breaks = p false }

@@ -1,33 +1,50 @@
 -- That `pier_read` (src/lib.rt) keeps its promise.
 use Rattle.pierstride.proofs.Serving.{passed-on, used-is, asked-is, predicates-is, counts-answer}
-use Rattle.pierstride.specs.Services.{countsOf, refusedCounts}
+use Rattle.pierstride.specs.Services.{answered, countsOf, saysRead}
 use Rattle.table.proofs.Opening.{opened, turned}
 use Rattle.table.proofs.Laws.{limits}
 use native.Mathlib.Omega.{arith}
 use Prim.Native.Nat.{ℕ}
-use mathlib.Core.Path.{_≡_, refl}
+use mathlib.Core.Path.{_≡_}
 use borrow.Author.Needs.{needs}
 use Rattle.pierstride.proofs.pier_read.Statement.{statement}
 use Rattle.pierstride.proofs.pier_read.Tie as tie
 
 returns : tie.Need-returns
-unfolding countsOf
+unfolding saysRead
 returns c =
-    passed-on (countsOf) refusedCounts (λ n p. refl) (c .before .before .before .before .before .before .args .table .now) (c .before .before .before .before .read .result) (c .before .refusal-of .result) (c .no-counts .result)
-    (turned (c .before .before .before .before .before .before .args .table .now) (c .before .before .before .before .read .result) (c .before .before .before .before .read .ensures) (λ q. let z : _≡_ {A = ℕ} 0 1 = rw q at (c .before .before .before .match .keys2) in omega arith))
-    (c .before .refusal-of .ensures) (c .no-counts .ensures)
+    let start = c .before .before .before .before .before .before .args in
+    let got = c .before .before .before .before .read in
+    let t = turned (start .table .now) (got .result) (got .ensures) (λ q. let z : _≡_ {A = ℕ} 0 1 = rw q at (c .before .before .before .match .keys2) in omega arith) in
+    passed-on countsOf answered t (c .before .refusal-of .result) (c .no-counts .result) (c .before .refusal-of .ensures) (c .no-counts .ensures)
 
 cast-t6 : tie.Need-cast-t6
-cast-t6 c = let o = opened (c .before .before .before .before .before .before .args .table .now) (c .before .before .before .before .read .result) (c .before .before .before .before .read .ensures) (c .before .before .enum-told .given .1) in record { fits = omega (arith, used-is (c .before .before .before .before .before .before .args .table .now) (c .before .before .before .before .read .result) (opened (c .before .before .before .before .before .before .args .table .now) (c .before .before .before .before .read .result) (c .before .before .before .before .read .ensures) (c .before .before .enum-told .given .1)), o .whole .rows-fit) }
+cast-t6 c =
+    let told = c .before .before in
+    let got = told .before .before .read in
+    let o = opened (told .before .before .before .before .args .table .now) (got .result) (got .ensures) (told .enum-told .given .1) in
+    record { fits = omega (arith, used-is o, o .whole .rows-fit) }
 
 cast-t7 : tie.Need-cast-t7
-cast-t7 c = let o = opened (c .before .before .before .before .before .before .before .args .table .now) (c .before .before .before .before .before .read .result) (c .before .before .before .before .before .read .ensures) (c .before .before .before .enum-told .given .1) in record { fits = omega (arith, asked-is (c .before .before .before .before .before .before .before .args .table .now) (c .before .before .before .before .before .read .result) (opened (c .before .before .before .before .before .before .before .args .table .now) (c .before .before .before .before .before .read .result) (c .before .before .before .before .before .read .ensures) (c .before .before .before .enum-told .given .1)), o .whole .questions-fit) }
+cast-t7 c =
+    let told = c .before .before .before in
+    let got = told .before .before .read in
+    let o = opened (told .before .before .before .before .args .table .now) (got .result) (got .ensures) (told .enum-told .given .1) in
+    record { fits = omega (arith, asked-is o, o .whole .questions-fit) }
 
 cast-t8 : tie.Need-cast-t8
-cast-t8 c = let o = opened (c .before .before .before .before .before .before .before .before .args .table .now) (c .before .before .before .before .before .before .read .result) (c .before .before .before .before .before .before .read .ensures) (c .before .before .before .before .enum-told .given .1) in record { fits = omega (arith, predicates-is (c .before .before .before .before .before .before .before .before .args .table .now) (c .before .before .before .before .before .before .read .result) (opened (c .before .before .before .before .before .before .before .before .args .table .now) (c .before .before .before .before .before .before .read .result) (c .before .before .before .before .before .before .read .ensures) (c .before .before .before .before .enum-told .given .1)), limits (c .before .before .before .before .before .before .before .before .args .table .now) (o .contents) (o .is) .3) }
+cast-t8 c =
+    let told = c .before .before .before .before in
+    let got = told .before .before .read in
+    let s = told .before .before .before .before .args .table .now in
+    let o = opened s (got .result) (got .ensures) (told .enum-told .given .1) in
+    record { fits = omega (arith, predicates-is o, limits s (o .contents) (o .is) .3) }
 
 returns-2 : tie.Need-returns-2
-returns-2 c = counts-answer (c .before .before .before .before .before .before .before .before .args .table .now) (c .before .before .before .before .before .before .read .result) (opened (c .before .before .before .before .before .before .before .before .args .table .now) (c .before .before .before .before .before .before .read .result) (c .before .before .before .before .before .before .read .ensures) (c .before .before .before .before .enum-told .given .1))
+returns-2 c =
+    let told = c .before .before .before .before in
+    let got = told .before .before .read in
+    counts-answer (opened (told .before .before .before .before .args .table .now) (got .result) (got .ensures) (told .enum-told .given .1))
 
 pub pier-read-spec : {M : Type 1} → statement M
 pier-read-spec =

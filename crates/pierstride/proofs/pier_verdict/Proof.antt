@@ -1,30 +1,53 @@
 -- That `pier_verdict` (src/lib.rt) keeps its promise.
-use Rattle.pierstride.proofs.Serving.{passed-on, verdict-missing, verdict-fits, verdict-answer}
-use Rattle.pierstride.specs.Services.{refusedVerdict, verdictOf}
+use Rattle.pierstride.proofs.Serving.{passed-on, verdict-refuses, verdict-fits, verdict-answers}
+use Rattle.pierstride.specs.Services.{verdictOf, saysVerdict}
 use Rattle.table.proofs.Opening.{opened, turned}
-use Rattle.table.specs.Reading.{Result}
 use native.Mathlib.Omega.{arith}
 use Prim.Native.Nat.{ℕ}
-use mathlib.Core.Path.{_≡_, refl, _∙_}
+use mathlib.Core.Path.{_≡_, _∙_}
 use borrow.Author.Needs.{needs}
 use Rattle.pierstride.proofs.pier_verdict.Statement.{statement}
 use Rattle.pierstride.proofs.pier_verdict.Tie as tie
 
 returns : tie.Need-returns
-unfolding verdictOf
+unfolding saysVerdict
 returns c =
-    passed-on (λ (x : Result). verdictOf x (c .before .before .before .before .before .before .args .question) (c .before .before .before .before .before .before .args .budget)) refusedVerdict (λ n p. refl) (c .before .before .before .before .before .before .args .table .now) (c .before .before .before .before .read .result) (c .before .refusal-of .result) (c .no-verdict .result)
-    (turned (c .before .before .before .before .before .before .args .table .now) (c .before .before .before .before .read .result) (c .before .before .before .before .read .ensures) (λ q. let z : _≡_ {A = ℕ} 0 1 = rw q at (c .before .before .before .match .keys2) in omega arith))
-    (c .before .refusal-of .ensures) (c .no-verdict .ensures)
+    let start = c .before .before .before .before .before .before .args in
+    let got = c .before .before .before .before .read in
+    let t = turned (start .table .now) (got .result) (got .ensures) (λ q. let z : _≡_ {A = ℕ} 0 1 = rw q at (c .before .before .before .match .keys2) in omega arith) in
+    passed-on verdictOf _ t (c .before .refusal-of .result) (c .no-verdict .result) (c .before .refusal-of .ensures) (c .no-verdict .ensures)
 
 returns-2 : tie.Need-returns-2
-returns-2 c = c .no-verdict2 .ensures ∙ verdict-missing (c .before .before .before .before .before .before .before .before .args .table .now) (c .before .before .before .before .before .before .read .result) (opened (c .before .before .before .before .before .before .before .before .args .table .now) (c .before .before .before .before .before .before .read .result) (c .before .before .before .before .before .before .read .ensures) (c .before .before .before .before .enum-told .given .1)) (c .before .before .before .before .before .before .before .before .args .question) (c .before .before .before .before .before .before .before .before .args .budget) (c .before .if1 .taken)
+returns-2 c =
+    let asked = c .before .before in
+    let told = asked .before .before in
+    let got = told .before .before .read in
+    let start = told .before .before .before .before .args in
+    let o = opened (start .table .now) (got .result) (got .ensures) (told .enum-told .given .1) in
+    let why = asked .asked-wrongly in
+    c .no-verdict2 .ensures ∙ verdict-refuses o (start .question) (start .budget) (why .result) (why .ensures) (c .before .if1 .taken)
 
 verdict-requires : tie.Need-verdict-requires
-verdict-requires c κs = verdict-fits (c .before .before .before .before .before .before .before .args .table .now) (c .before .before .before .before .before .read .result) (opened (c .before .before .before .before .before .before .before .args .table .now) (c .before .before .before .before .before .read .result) (c .before .before .before .before .before .read .ensures) (c .before .before .before .enum-told .given .1)) (c .before .before .before .before .before .before .before .args .question) (c .before .before .before .before .before .before .before .args .budget) (c .if1 .left)
+verdict-requires c κs =
+    let asked = c .before in
+    let told = asked .before .before in
+    let got = told .before .before .read in
+    let start = told .before .before .before .before .args in
+    let o = opened (start .table .now) (got .result) (got .ensures) (told .enum-told .given .1) in
+    let why = asked .asked-wrongly in
+    verdict-fits o (start .question) (start .budget) (why .result) (why .ensures) (c .if1 .left)
 
 returns-3 : tie.Need-returns-3
-returns-3 c = c .replied .ensures ∙ verdict-answer (c .before .before .before .before .before .before .before .before .before .args .table .now) (c .before .before .before .before .before .before .before .read .result) (opened (c .before .before .before .before .before .before .before .before .before .args .table .now) (c .before .before .before .before .before .before .before .read .result) (c .before .before .before .before .before .before .before .read .ensures) (c .before .before .before .before .before .enum-told .given .1)) (c .before .before .before .before .before .before .before .before .before .args .question) (c .before .before .before .before .before .before .before .before .before .args .budget) (c .before .verdict .result) (c .before .before .if1 .left) (c .before .verdict .ensures)
+returns-3 c =
+    let asked = c .before .before .before in
+    let told = asked .before .before in
+    let got = told .before .before .read in
+    let start = told .before .before .before .before .args in
+    let o = opened (start .table .now) (got .result) (got .ensures) (told .enum-told .given .1) in
+    let why = asked .asked-wrongly in
+    let reply = c .before .verdict in
+    c .replied .ensures
+    ∙ verdict-answers o (start .question) (start .budget) (why .result) (why .ensures) (c .before .before .if1 .left) (reply .result) (reply .ensures)
 
 pub pier-verdict-spec : {M : Type 1} → statement M
 pier-verdict-spec =
@@ -36,6 +59,7 @@ pier-verdict-spec =
     (λ c κs. search needs)
     (λ c κs. search needs)
     returns
+    (λ c κs. search needs)
     (λ c κs. search needs)
     returns-2
     verdict-requires
