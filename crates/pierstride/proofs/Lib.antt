@@ -2,3 +2,6 @@
 pub mod KnownMasks
 pub mod Serving
 pub mod Unique
+pub mod FirstDemand
+pub mod Answered
+pub mod SecondDemand

@@ -9,7 +9,7 @@ use Rattle.belnap.proofs.Finite.{both-parts, or-left, or-right, or-part, same-i
 use Rattle.possible.specs.Sets.{Set, has, Within, those, some, single, either, over, imageOne, imageTwo}
 
 -- membership is the test
-has-those : (p : Decision → Bool) (v : Decision) → has (those p) v ≡ p v
+pub has-those : (p : Decision → Bool) (v : Decision) → has (those p) v ≡ p v
 has-those p U = refl
 has-those p D = refl
 has-those p G = refl

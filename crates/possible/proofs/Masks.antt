@@ -1,10 +1,17 @@
 -- Masks go both ways: each set is the one with its mask, and only the four low bits of a number that is taken for a mask count.
+-- A decision counts two to the power of its code, so it is a member exactly if that bit is set.
 -- Assumes nothing.
-use Prim.Native.Nat.{ℕ, _/_, _%_, _≤_, _<_}
-use mathlib.Core.Path.{_≡_, refl}
+use Prim.Native.Nat.{ℕ, _/_, _%_, _^_, _≤_, _<_}
+use mathlib.Core.Path.{_≡_, refl, sym, ap, _∙_}
 use mathlib.Core.Bool.{Bool, true, false, cond}
 use native.Mathlib.Omega.{arith}
-use Rattle.possible.specs.Sets.{Set, mask, ofMask}
+use lib.Dec.{eqb}
+use Rattle.belnap.specs.declared.Decision.{Decision}
+use Rattle.belnap.specs.declared.Decision.the-variants.{U, D, G, C}
+use Rattle.belnap.specs.Decisions.{code}
+use Rattle.decide.specs.Meaning.{bit}
+use Rattle.possible.specs.Sets.{Set, has, single, counts, mask, ofMask}
+use Rattle.possible.proofs.Images.{has-those}
 
 pub of-mask : (s : Set) → ofMask (mask s) ≡ s
 unfolding mask ofMask
@@ -42,3 +49,21 @@ low n = rw (bits n .0, bits n .1, bits n .2, bits n .3)
   where
     bits : (n : ℕ) → (n % 16 / 1 % 2 ≡ n / 1 % 2) × (n % 16 / 2 % 2 ≡ n / 2 % 2) × (n % 16 / 4 % 2 ≡ n / 4 % 2) × (n % 16 / 8 % 2 ≡ n / 8 % 2)
     bits n = (omega arith, omega arith, omega arith, omega arith)
+
+weight : (v : Decision) → 2 ^ code v ≡ counts v
+weight U = refl
+weight D = refl
+weight G = refl
+weight C = refl
+
+pub member-bit : (s : Set) (v : Decision) → bit (mask s) (code v) ≡ has s v
+unfolding bit ofMask
+member-bit s v =
+    ap (λ (n : ℕ). eqb (mask s / n % 2) 1) (weight v) ∙ sym (has-those (λ x. eqb (mask s / counts x % 2) 1) v) ∙ ap (λ (t : Set). has t v) (of-mask s)
+
+pub single-mask : (v : Decision) → mask (single v) ≡ 2 ^ code v
+unfolding mask
+single-mask U = refl
+single-mask D = refl
+single-mask G = refl
+single-mask C = refl

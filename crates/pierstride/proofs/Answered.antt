@@ -1,0 +1,82 @@
+-- What a service that refused nothing has answered: of which table, and what.
+-- Assumes nothing.
+use mathlib.Core.Path.{_≡_, refl, sym, ap, _∙_}
+use mathlib.Core.Bool.{Bool, true, false, cond}
+use mathlib.Core.List.{List}
+use Prim.Native.Nat.{ℕ, zero, suc, _<_}
+use native.Mathlib.Omega.{arith}
+use lib.ListN.{length}
+use lib.Dec.{leb}
+use borrow.Author.Tests.{leb-false, lt-leb}
+use Rattle.table.specs.Reading.{Contents, Result, accepted, refused, reading, predicates}
+use Rattle.decide.specs.Meaning.{decision}
+use Rattle.possible.specs.Possible.{possible}
+use Rattle.walk.specs.Walk.{walk, replyOf}
+use Rattle.pierstride.specs.Masks.{beyond, badMasks}
+use Rattle.pierstride.specs.Services.{Said, answered, refusing, onTable, askedWrongly, unlessWrong, decidedOf, remainingOf, repliedOf, verdictOf}
+use Rattle.pierstride.specs.Services.{saysDecide, decideAnswer, saysPossible, possibleAnswer, saysVerdict, verdictAnswer}
+
+-- an answer speaks of an accepted table
+pub table-of : {A : Type 0} (s : List ℕ) (f : Contents → Said A) (v : A) → onTable (reading s) f ≡ answered v → (c : Contents) × (reading s ≡ accepted c)
+table-of s f v = go (reading s) refl
+  where
+    go : (x : Result) → reading s ≡ x → onTable x f ≡ answered v → (c : Contents) × (reading s ≡ accepted c)
+    go (accepted c) e q = (c, e)
+    go (refused n p) e q = absurd (let z : _≡_ {A = ℕ} 0 1 = cc in omega arith)
+
+-- nothing was wrong with what was asked
+asked-well : {A B : Type 0} (shows : Said A → B) (refusal : B → ℕ) → ((n p : ℕ) → refusal (shows (refusing n p)) ≡ n) → (n : ℕ) (v : A) →
+    refusal (shows (unlessWrong n v)) ≡ 0 → n ≡ 0
+asked-well shows refusal h zero v e = refl
+asked-well shows refusal h (suc n) v e = absurd (omega (arith, e, h (suc n) 0))
+
+-- the number and the masks were good
+pub record Well (count at : ℕ) (bad : Bool) : Type 0 where
+  pub there : at < count
+  pub good : bad ≡ false
+
+well : (count at : ℕ) (bad : Bool) → askedWrongly count at bad ≡ 0 → Well count at bad
+unfolding askedWrongly
+well count at bad e = go (leb count at) bad refl refl e
+  where
+    go : (a b : Bool) → leb count at ≡ a → bad ≡ b → _≡_ {A = ℕ} (cond a 8 (cond b 10 0)) 0 → Well count at bad
+    go true b p q e = absurd (omega arith)
+    go false true p q e = absurd (omega arith)
+    go false false p q e = record { there = leb-false count at p; good = q }
+
+-- and then nothing is wrong with it
+asked-right : (count at : ℕ) → at < count → askedWrongly count at false ≡ 0
+unfolding askedWrongly
+asked-right count at h = rw (lt-leb count at h)
+
+-- the services on an accepted table
+module _ (s : List ℕ) (c : Contents) (is : reading s ≡ accepted c) where
+  module _ (r request : ℕ) where
+    decide-says : saysDecide s r request ≡ unlessWrong (askedWrongly (length (c .rows)) r (beyond request)) (decision (c .rows) request r)
+    unfolding saysDecide
+    decide-says = rw is
+
+    pub decided : decideAnswer s r request .refusal ≡ 0 →
+        Well (length (c .rows)) r (beyond request) × (decideAnswer s r request ≡ decidedOf (answered (decision (c .rows) request r)))
+    decided e =
+        let n = asked-well decidedOf (λ a. a .refusal) (λ n p. refl) _ _ (rw decide-says at e) in
+        (well (length (c .rows)) r (beyond request) n, ap decidedOf decide-says ∙ rw n)
+
+    pub decides : r < length (c .rows) → beyond request ≡ false → decideAnswer s r request ≡ decidedOf (answered (decision (c .rows) request r))
+    decides h g = ap decidedOf decide-says ∙ rw (g, asked-right (length (c .rows)) r h)
+
+  module _ (r known request : ℕ) where
+    possible-says : saysPossible s r known request ≡ unlessWrong (askedWrongly (length (c .rows)) r (badMasks known request)) (possible (c .rows) known request r)
+    unfolding saysPossible
+    possible-says = rw is
+
+    pub remained : possibleAnswer s r known request .refusal ≡ 0 →
+        Well (length (c .rows)) r (badMasks known request) × (possibleAnswer s r known request ≡ remainingOf (answered (possible (c .rows) known request r)))
+    remained e =
+        let n = asked-well remainingOf (λ a. a .refusal) (λ n p. refl) _ _ (rw possible-says at e) in
+        (well (length (c .rows)) r (badMasks known request) n, ap remainingOf possible-says ∙ rw n)
+
+  pub replies : (q budget : ℕ) → q < length (c .questions) →
+      verdictAnswer s q budget ≡ repliedOf (replyOf budget (walk (c .rows) (c .questions) (predicates (c .rows)) q))
+  unfolding saysVerdict
+  replies q budget h = rw (is, asked-right (length (c .questions)) q h)

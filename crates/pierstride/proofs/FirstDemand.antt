@@ -1,0 +1,137 @@
+-- The letter's first demand, of the services' answers: every byte string and every number gets an answer or one of 01's numbered refusals, with its number
+-- and place, and a refusal keeps the lent output's bytes.
+-- Assumes nothing.
+use mathlib.Core.Path.{_≡_, refl, sym, ap, _∙_}
+use mathlib.Core.Bool.{Bool, true, false, cond}
+use mathlib.Core.List.{List}
+use mathlib.Core.Logic.{inl, inr, ⊎-elim}
+use Prim.Native.Nat.{ℕ}
+use native.Mathlib.Omega.{arith}
+use lib.ListN.{length}
+use lib.Dec.{leb, ltb}
+use Rattle.table.specs.declared.lookup.Place.the-variants.{At, Missing}
+use Rattle.table.specs.Reading.{Contents, Result, accepted, refused, reading, isAmong}
+use Rattle.table.specs.Lookup.{placeOf}
+use Rattle.table.proofs.Laws.{refused-within}
+use Rattle.walk.specs.declared.Reply.{Reply}
+use Rattle.walk.specs.declared.Reply.the-variants.{Holds, Fails, Unfinished}
+use Rattle.strike.specs.declared.Struck.{Struck}
+use Rattle.strike.specs.declared.Struck.the-variants.{Written, Refused}
+use Rattle.strike.specs.Strike.{missing, inUse, tooShort, struckAnswer}
+use Rattle.strike.proofs.Telling.{refused-keeps}
+use Rattle.pierstride.specs.Masks.{beyond, badMasks}
+use Rattle.pierstride.specs.Services.{Said, answered, refusing, onTable, askedWrongly, unlessWrong, countsOf, decidedOf, remainingOf, repliedOf, verdictOf, locatedOf, closedOf}
+use Rattle.pierstride.specs.Services.{saysRead, readAnswer, saysDecide, decideAnswer, saysPossible, possibleAnswer, saysVerdict, verdictAnswer}
+use Rattle.pierstride.specs.Services.{saysPlace, saysEntry, entryAnswer, saysStruck, saysStrike, strikeAnswer, strikeOutput}
+use Rattle.pierstride.specs.Demands.{noOwn, ofDeciding, ofAsking, ofStriking, Due, Tells}
+
+-- what a call says is an answer, or a refusal that is due
+abbrev DueOf : {A : Type 0} → List ℕ → List ℕ → Said A → Type 0
+DueOf own s (answered v) = Unit {0}
+DueOf own s (refusing n p) = Due own s n p
+
+never-zero : (own s : List ℕ) (n p : ℕ) → isAmong own 0 ≡ false → Due own s n p → n ≡ 0 → ⊥
+never-zero own s n p o d e =
+    let clash : true ≡ false → ⊥ = λ e. (let z : _≡_ {A = ℕ} 0 1 = cc in omega arith) in
+    ⊎-elim (λ h. clash (sym (rw e at (h .0)))) (λ h. clash (sym (rw e at (h .0)) ∙ o)) d
+
+-- a struct that shows what a call says in its two first fields tells it
+tells : {A B : Type 0} (own s : List ℕ) (shows : Said A → B) (refusal place : B → ℕ) → isAmong own 0 ≡ false →
+    ((v : A) → (refusal (shows (answered v)) ≡ 0) × (place (shows (answered v)) ≡ 0)) →
+    ((n p : ℕ) → (refusal (shows (refusing n p)) ≡ n) × (place (shows (refusing n p)) ≡ p)) →
+    (said : Said A) → DueOf own s said → Tells own s said (refusal (shows said)) (place (shows said))
+tells own s shows refusal place o a r (answered v) d = record {
+  answers = λ e. (v, refl);
+  zero = λ w e. a v;
+  refuses = λ h. absurd (h (a v .0));
+}
+tells own s shows refusal place o a r (refusing n p) d = record {
+  answers = λ e. absurd (never-zero own s n p o d (sym (r n p .0) ∙ e));
+  zero = λ w e. absurd (let z : _≡_ {A = ℕ} 0 1 = cc in omega arith);
+  refuses = λ h. rw (r n p .0, r n p .1) (refl, d);
+}
+
+-- reading's own refusal, or what is said of the contents
+on-table : {A : Type 0} (own s : List ℕ) (f : Contents → Said A) → ((c : Contents) → DueOf own s (f c)) → DueOf own s (onTable (reading s) f)
+on-table own s f h = go (reading s) refl
+  where
+    go : (x : Result) → reading s ≡ x → DueOf own s (onTable x f)
+    go (accepted c) e = h c
+    go (refused n p) e = inl (refused-within s n p e)
+
+-- 8, then 10
+asked : {A : Type 0} (own s : List ℕ) (count at : ℕ) (bad : Bool) (v : A) → isAmong own 8 ≡ true → (bad ≡ true → isAmong own 10 ≡ true) →
+    DueOf own s (unlessWrong (askedWrongly count at bad) v)
+unfolding askedWrongly
+asked own s count at bad v e f = go (leb count at) bad f
+  where
+    go : (a b : Bool) → (b ≡ true → isAmong own 10 ≡ true) → DueOf own s (unlessWrong (cond a 8 (cond b 10 0)) v)
+    go true b f = inr (e, refl)
+    go false true f = inr (f refl, refl)
+    go false false f = tt
+
+-- each service
+pub read-tells : (s : List ℕ) → Tells noOwn s (saysRead s) (readAnswer s .refusal) (readAnswer s .place)
+unfolding saysRead
+read-tells s =
+    tells noOwn s countsOf (λ a. a .refusal) (λ a. a .place) refl (λ v. (refl, refl)) (λ n p. (refl, refl)) (saysRead s) (on-table noOwn s answered (λ c. tt))
+
+pub decide-tells : (s : List ℕ) (r request : ℕ) → Tells ofDeciding s (saysDecide s r request) (decideAnswer s r request .refusal) (decideAnswer s r request .place)
+unfolding saysDecide
+decide-tells s r request =
+    tells ofDeciding s decidedOf (λ a. a .refusal) (λ a. a .place) refl (λ v. (refl, refl)) (λ n p. (refl, refl)) (saysDecide s r request)
+    (on-table ofDeciding s _ (λ c. asked ofDeciding s (length (c .rows)) r (beyond request) _ refl (λ e. refl)))
+
+pub possible-tells : (s : List ℕ) (r known request : ℕ) →
+    Tells ofDeciding s (saysPossible s r known request) (possibleAnswer s r known request .refusal) (possibleAnswer s r known request .place)
+unfolding saysPossible
+possible-tells s r known request =
+    tells ofDeciding s remainingOf (λ a. a .refusal) (λ a. a .place) refl (λ v. (refl, refl)) (λ n p. (refl, refl)) (saysPossible s r known request)
+    (on-table ofDeciding s _ (λ c. asked ofDeciding s (length (c .rows)) r (badMasks known request) _ refl (λ e. refl)))
+
+pub verdict-tells : (s : List ℕ) (q budget : ℕ) → Tells ofAsking s (saysVerdict s q budget) (verdictAnswer s q budget .refusal) (verdictAnswer s q budget .place)
+unfolding saysVerdict
+verdict-tells s q budget =
+    tells ofAsking s verdictOf (λ a. a .refusal) (λ a. a .place) refl answering (λ n p. (refl, refl)) (saysVerdict s q budget)
+    (on-table ofAsking s _ (λ c. asked ofAsking s (length (c .questions)) q false _ refl (λ e. absurd (let z : _≡_ {A = ℕ} 0 1 = cc in omega arith))))
+  where
+    answering : (reply : Reply) → (repliedOf reply .refusal ≡ 0) × (repliedOf reply .place ≡ 0)
+    answering (Holds n) = (refl, refl)
+    answering (Fails m n) = (refl, refl)
+    answering (Unfinished n) = (refl, refl)
+
+pub entry-tells : (s : List ℕ) (r : ℕ) → Tells ofAsking s (saysEntry s r) (entryAnswer s r .refusal) (entryAnswer s r .place)
+unfolding placeOf
+entry-tells s r =
+    tells ofAsking s locatedOf (λ a. a .refusal) (λ a. a .place) refl (λ v. (refl, refl)) (λ n p. (refl, refl)) (saysEntry s r) (go (reading s) refl)
+  where
+    there : (b : Bool) (start n : ℕ) → DueOf ofAsking s (saysPlace (cond b (At start n) (Missing 8 0)))
+    there true start n = tt
+    there false start n = inr (refl, refl)
+
+    go : (x : Result) → reading s ≡ x → DueOf ofAsking s (saysPlace (placeOf x r))
+    go (accepted c) e = there (ltb r (length (c .rows))) _ _
+    go (refused n p) e = inl (refused-within s n p e)
+
+pub strike-tells : (s : List ℕ) (r : ℕ) (out : List ℕ) → Tells ofStriking s (saysStrike s r out) (strikeAnswer s r out .refusal) (strikeAnswer s r out .place)
+unfolding struckAnswer
+strike-tells s r out =
+    tells ofStriking s closedOf (λ a. a .refusal) (λ a. a .place) refl (λ v. (refl, refl)) (λ n p. (refl, refl)) (saysStrike s r out) (go (reading s) refl)
+  where
+    each : (a b c : Bool) (n : ℕ) → DueOf ofStriking s (saysStruck (cond a (Refused 8 0) (cond b (Refused 9 0) (cond c (Refused 11 0) (Written n)))))
+    each true b c n = inr (refl, refl)
+    each false true c n = inr (refl, refl)
+    each false false true n = inr (refl, refl)
+    each false false false n = tt
+
+    go : (x : Result) → reading s ≡ x → DueOf ofStriking s (saysStruck (struckAnswer x r (length out)))
+    go (accepted c) e = each (missing r c) (inUse r c) (tooShort (length out) r c) _
+    go (refused n p) e = inl (refused-within s n p e)
+
+-- "the lent output keeps its old bytes"
+pub refusal-keeps-output : (s : List ℕ) (r : ℕ) (out : List ℕ) → (strikeAnswer s r out .refusal ≡ 0 → ⊥) → strikeOutput s r out ≡ out
+refusal-keeps-output s r out h = go (struckAnswer (reading s) r (length out)) refl h
+  where
+    go : (a : Struck) → struckAnswer (reading s) r (length out) ≡ a → (closedOf (saysStruck a) .refusal ≡ 0 → ⊥) → strikeOutput s r out ≡ out
+    go (Written n) e h = absurd (h refl)
+    go (Refused n p) e h = refused-keeps (reading s) r out n p e

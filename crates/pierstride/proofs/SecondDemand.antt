@@ -1,0 +1,162 @@
+-- The letter's second demand, of the services' answers: a decision goes by the predicates that the row reaches; a question holds exactly if no request breaks
+-- it, and else the first request that does is shown; what striking wrote, given to the services again, brings the old answers under the new numbers.
+-- Assumes nothing.
+use mathlib.Core.Path.{_≡_, refl, sym, ap, _∙_}
+use mathlib.Core.Bool.{Bool, true, false}
+use mathlib.Core.List.{List}
+use Prim.Native.Nat.{ℕ, suc, _+_, _-_, _^_, _≤_, _<_}
+use native.Mathlib.Omega.{arith}
+use lib.ListN.{length, take, drop}
+use lib.Dec.{leb}
+use borrow.Author.Tests.{lt-leb, le-leb}
+use Rattle.belnap.specs.declared.Decision.{Decision}
+use Rattle.table.specs.Reading.{Contents, accepted, reading, predicates}
+use Rattle.table.proofs.Numbers.{by-order}
+use Rattle.table.proofs.Writing.{entries, Whole, of-accepted}
+use Rattle.decide.specs.Reach.{reaches}
+use Rattle.decide.specs.Requests.{Agree}
+use Rattle.decide.proofs.Independence.{independent}
+use Rattle.walk.specs.declared.Reply.the-variants.{Holds, Fails, Unfinished}
+use Rattle.walk.specs.Order.{comesBefore}
+use Rattle.walk.specs.Walk.{Found, nothing, breaking, visits, walk, ended, replyOf}
+use Rattle.walk.proofs.Replies.{reply-within, reply-beyond}
+use Rattle.walk.proofs.Answers.{nothing-holds, breaking-first}
+use Rattle.strike.specs.declared.Struck.{Struck}
+use Rattle.strike.specs.declared.Struck.the-variants.{Written, Refused}
+use Rattle.strike.specs.Strike.{lower, struck, namedBy, struckAnswer}
+use Rattle.strike.proofs.Renumbering.{lower-above, lower-below}
+use Rattle.strike.proofs.Laws.{struck-rows, struck-questions}
+use Rattle.strike.proofs.Telling.{Done, done-of, struck-read}
+use Rattle.strike.proofs.Keeping.{decides-as-before, possible-as-before, verdict-kept}
+use Rattle.pierstride.specs.declared.Verdict.{Verdict}
+use Rattle.pierstride.specs.Masks.{beyond, badMasks}
+use Rattle.pierstride.specs.Services.{answered, onTable, askedWrongly, unlessWrong, decidedOf, remainingOf, repliedOf, verdictOf, saysStruck}
+use Rattle.pierstride.specs.Services.{saysRead, readAnswer, saysDecide, decideAnswer, saysPossible, possibleAnswer, saysVerdict, verdictAnswer, strikeAnswer, strikeOutput}
+use Rattle.pierstride.specs.Demands.{Breaks}
+use Rattle.pierstride.proofs.Answered.{decided, replies}
+use Rattle.pierstride.proofs.FirstDemand.{strike-tells}
+
+-- "Two requests that agree on every predicate that a row reaches … get the same decision from it"
+pub decide-independent : (s : List ℕ) (c : Contents) → reading s ≡ accepted c → (r m o : ℕ) → Agree (reaches (c .rows) r) m o →
+    decideAnswer s r m .refusal ≡ 0 → decideAnswer s r o .refusal ≡ 0 → decideAnswer s r m ≡ decideAnswer s r o
+decide-independent s c is r m o agree p q =
+    decided s c is r m p .1 ∙ ap (λ (v : Decision). decidedOf (answered v)) (independent (c .rows) m o r agree) ∙ sym (decided s c is r o q .1)
+
+-- a reply, by what the walk found and whether its visits are within the budget
+pub by-reply : {P : Type 0} (b : ℕ) (w : Found) (v : Verdict) → v ≡ repliedOf (replyOf b w) →
+    ((n : ℕ) → w ≡ nothing n → n ≤ b → v ≡ repliedOf (Holds n) → P) →
+    ((m n : ℕ) → w ≡ breaking m n → n ≤ b → v ≡ repliedOf (Fails m n) → P) →
+    (b < visits w → v ≡ repliedOf (Unfinished b) → P) → P
+by-reply b (nothing n) v e f g h =
+    by-order b n (λ l. h l (e ∙ ap repliedOf (reply-beyond b (nothing n) l))) (λ l. f n refl l (e ∙ ap repliedOf (reply-within b (nothing n) l)))
+by-reply b (breaking m n) v e f g h =
+    by-order b n (λ l. h l (e ∙ ap repliedOf (reply-beyond b (breaking m n) l))) (λ l. g m n refl l (e ∙ ap repliedOf (reply-within b (breaking m n) l)))
+
+-- a reply that is shown under two numbers is none
+pub unlike : {P : Type 0} (v w : Verdict) (k : ℕ) → v ≡ w → v .reply ≡ k → (w .reply ≡ k → ⊥) → P
+unlike v w k q e h = absurd (h (sym (ap (λ (v : Verdict). v .reply) q) ∙ e))
+
+never : {P : Type 0} → true ≡ false → P
+never e = absurd (let z : _≡_ {A = ℕ} 0 1 = cc in omega arith)
+
+-- "A question holds exactly if no request breaks it; otherwise, budget permitting, you show the first request that does, in 01's order."
+module _ (s : List ℕ) (c : Contents) (is : reading s ≡ accepted c) (q b : ℕ) (there : q < length (c .questions)) where
+  abbrev answer : Verdict
+  answer = verdictAnswer s q b
+
+  abbrev n : ℕ
+  n = predicates (c .rows)
+
+  abbrev found : Found
+  found = walk (c .rows) (c .questions) n q
+
+  pub holds-means : answer .reply ≡ 1 → (o : ℕ) → Breaks c q o → ⊥
+  holds-means e o broken =
+      by-reply b found answer (replies s c is q b there)
+      (λ k w l v. never (sym (nothing-holds (c .rows) (c .questions) q k w o) ∙ broken))
+      (λ m k w l v. unlike answer _ 1 v e (λ z. omega arith))
+      (λ l v. unlike answer _ 1 v e (λ z. omega arith))
+
+  pub holds-if : (answer .reply ≡ 3 → ⊥) → ((o : ℕ) → o < 2 ^ n → Breaks c q o → ⊥) → answer .reply ≡ 1
+  holds-if enough kept =
+      by-reply b found answer (replies s c is q b there)
+      (λ k w l v. ap (λ (v : Verdict). v .reply) v)
+      (λ m k w l v. let f = breaking-first (c .rows) (c .questions) q m k w in absurd (kept m (f .1) (f .0)))
+      (λ l v. absurd (enough (ap (λ (v : Verdict). v .reply) v)))
+
+  pub fails-means : answer .reply ≡ 2 →
+      Breaks c q (answer .request) × (answer .request < 2 ^ n) × ((more o : ℕ) → comesBefore (n + more) o (answer .request) ≡ true → Breaks c q o → ⊥)
+  fails-means e =
+      by-reply b found answer (replies s c is q b there)
+      (λ k w l v. unlike answer _ 2 v e (λ z. omega arith))
+      (λ m k w l v.
+      let f = breaking-first (c .rows) (c .questions) q m k w in
+      rw (ap (λ (v : Verdict). v .request) v) (f .0, f .1, λ more o h broken. never (sym (f .2 more o h) ∙ broken)))
+      (λ l v. unlike answer _ 2 v e (λ z. omega arith))
+
+  pub fails-if : (answer .reply ≡ 3 → ⊥) → (o : ℕ) → Breaks c q o → answer .reply ≡ 2
+  fails-if enough o broken =
+      by-reply b found answer (replies s c is q b there)
+      (λ k w l v. never (sym (nothing-holds (c .rows) (c .questions) q k w o) ∙ broken))
+      (λ m k w l v. ap (λ (v : Verdict). v .reply) v)
+      (λ l v. absurd (enough (ap (λ (v : Verdict). v .reply) v)))
+
+-- a table without a row that nothing names
+module _ (c : Contents) (r : ℕ) (w : Whole c) (unnamed : namedBy r (entries c) ≡ false) (there : r < length (c .rows)) where
+  -- a row other than r is there under its new number exactly if it was there
+  still-there : (i : ℕ) → (i ≡ r → ⊥) → leb (length (struck r c .rows)) (lower r i) ≡ leb (length (c .rows)) i
+  still-there i other =
+      let old = length (c .rows) in
+      let left = length (struck r c .rows) in
+      let fewer = struck-rows r c there in
+      let same : (x : ℕ) → (i < old → x < left) → (old ≤ i → left ≤ x) → leb left x ≡ leb old i =
+      λ x f g. by-order i old (λ h. lt-leb left x (f h) ∙ sym (lt-leb old i h)) (λ h. le-leb left x (g h) ∙ sym (le-leb old i h)) in
+      by-order r i
+      (λ l. rw (lower-above r i l) (same (i - 1) (λ h. omega (arith, fewer)) (λ h. omega (arith, fewer))))
+      (λ l. rw (lower-below r i l) (same i (λ h. omega (arith, fewer, other)) (λ h. omega (arith, fewer, other))))
+
+-- "Once a row is struck, every remaining row decides as before under its new number": the services on the bytes that striking wrote
+module _ (s out : List ℕ) (r : ℕ) (done : strikeAnswer s r out .refusal ≡ 0) where
+  -- the bytes that were written
+  abbrev pub new : List ℕ
+  new = take (strikeAnswer s r out .length) (strikeOutput s r out)
+
+  written-of : (a : Struck) (n : ℕ) → saysStruck a ≡ answered n → a ≡ Written n
+  written-of (Written m) n e = let q : m ≡ n = cc in ap Written q
+  written-of (Refused m p) n e = absurd (let z : _≡_ {A = ℕ} 0 1 = cc in omega arith)
+
+  wrote : (n : ℕ) × (struckAnswer (reading s) r (length out) ≡ Written n)
+  wrote = let a = strike-tells s r out .answers done in (a .0, written-of _ (a .0) (a .1))
+
+  of : Done (reading s) r (length out) (wrote .0)
+  of = done-of (reading s) r (length out) (wrote .0) (wrote .1)
+
+  whole : Whole (of .contents)
+  whole = of-accepted s (of .contents) (of .is) .0
+
+  new-read : reading new ≡ accepted (struck r (of .contents))
+  unfolding of
+  new-read = rw (wrote .1) (struck-read s r out (wrote .0) (wrote .1) .0)
+
+  pub strike-keeps-decisions : (i request : ℕ) → (i ≡ r → ⊥) → decideAnswer new (lower r i) request ≡ decideAnswer s i request
+  unfolding saysDecide askedWrongly
+  strike-keeps-decisions i request other =
+      rw (new-read, of .is, still-there (of .contents) r whole (of .unnamed) (of .there) i other, decides-as-before (of .contents) r whole (of .unnamed) request i other)
+
+  pub strike-keeps-sets : (i known request : ℕ) → (i ≡ r → ⊥) → possibleAnswer new (lower r i) known request ≡ possibleAnswer s i known request
+  unfolding saysPossible askedWrongly
+  strike-keeps-sets i known request other =
+      rw (new-read, of .is, still-there (of .contents) r whole (of .unnamed) (of .there) i other, possible-as-before (of .contents) r whole (of .unnamed) known request i other)
+
+  pub strike-keeps-verdicts : (j budget : ℕ) → verdictAnswer new j budget ≡ verdictAnswer s j budget
+  unfolding saysVerdict
+  strike-keeps-verdicts j budget = rw (new-read, of .is, struck-questions r (of .contents), verdict-kept (of .contents) r whole (of .unnamed) j budget)
+
+  -- one row fewer, and every question
+  pub strike-counts : (readAnswer s .rows ≡ suc (readAnswer new .rows)) × (readAnswer new .questions ≡ readAnswer s .questions)
+  unfolding saysRead
+  strike-counts = rw (new-read, of .is) (sym (struck-rows r (of .contents) (of .there)), struck-questions r (of .contents))
+
+  -- "bytes behind the last stay"
+  pub strike-keeps-rest : drop (strikeAnswer s r out .length) (strikeOutput s r out) ≡ drop (strikeAnswer s r out .length) out
+  strike-keeps-rest = rw (wrote .1) (struck-read s r out (wrote .0) (wrote .1) .1)

@@ -1,0 +1,42 @@
+-- What the theorems about the letter's three demands speak of, beside the services' answers (specs/Services.antt).
+use Prim.Native.Nat.{ℕ, _<_}
+use mathlib.Core.Path.{_≡_}
+use mathlib.Core.Bool.{true, false}
+use mathlib.Core.List.{List, [], _∷_}
+use mathlib.Core.Logic.{_⊎_}
+use lib.ListN.{length}
+use Rattle.table.specs.Reading.{Contents, predicates, ofReading, isAmong}
+use Rattle.walk.specs.Questions.{truth}
+use Rattle.walk.specs.Walk.{visits, walk}
+use Rattle.pierstride.specs.Services.{Said, answered, refusing}
+
+-- "one of 01's numbered refusals": each call's own, beside those of reading
+abbrev pub noOwn : List ℕ
+noOwn = []
+
+abbrev pub ofDeciding : List ℕ
+ofDeciding = 8 ∷ 10 ∷ []
+
+abbrev pub ofAsking : List ℕ
+ofAsking = 8 ∷ []
+
+abbrev pub ofStriking : List ℕ
+ofStriking = 8 ∷ 9 ∷ 11 ∷ []
+
+-- "A refusal gives its number and place": one of reading's, at a place of the table, or one of the call's own, at 0
+abbrev pub Due : List ℕ → List ℕ → ℕ → ℕ → Type 0
+Due own s n p = ((isAmong ofReading n ≡ true) × (p < length s)) ⊎ ((isAmong own n ≡ true) × (p ≡ 0))
+
+-- `refusal` is 0 exactly if the call answered; otherwise it and `place` are those of a refusal that 01 gives the call
+pub record Tells {A : Type 0} (own s : List ℕ) (said : Said A) (refusal place : ℕ) : Type 0 where
+  pub answers : refusal ≡ 0 → (v : A) × (said ≡ answered v)
+  pub zero : (v : A) → said ≡ answered v → (refusal ≡ 0) × (place ≡ 0)
+  pub refuses : (refusal ≡ 0 → ⊥) → (said ≡ refusing refusal place) × Due own s refusal place
+
+-- "A request breaks a question if it is false there."
+abbrev pub Breaks : Contents → ℕ → ℕ → Type 0
+Breaks c q o = truth (c .rows) (c .questions) o q ≡ false
+
+-- how many visits "01's walk needs"
+abbrev pub needed : Contents → ℕ → ℕ
+needed c q = visits (walk (c .rows) (c .questions) (predicates (c .rows)) q)
