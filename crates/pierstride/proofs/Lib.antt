@@ -5,3 +5,4 @@ pub mod Unique
 pub mod FirstDemand
 pub mod Answered
 pub mod SecondDemand
+pub mod ThirdDemand

@@ -44,7 +44,7 @@ else-bound (nothing n) (nothing m) = omega arith
 else-bound (nothing n) (breaking k m) = omega arith
 else-bound (breaking k n) v = omega arith
 
-visits-bound : (see : ℕ → ℕ → Look) (left k facts : ℕ) → visits (walkFrom see left k facts) < 2 ^ suc left
+pub visits-bound : (see : ℕ → ℕ → Look) (left k facts : ℕ) → visits (walkFrom see left k facts) < 2 ^ suc left
 unfolding walkFrom
 visits-bound see zero k facts = omega (arith, visit-bound (see k facts) facts (nothing 0))
 visits-bound see (suc left) k facts =

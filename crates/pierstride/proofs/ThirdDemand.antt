@@ -1,0 +1,159 @@
+-- The letter's third demand, of the services' answers: a larger budget brings the same verdict, request and count; a budget is too small exactly if the walk
+-- needs more visits, and 2^(n+1) - 1 are always enough; the set of a row has the decision under every filling, gains none by learning, and with nothing unknown
+-- is the true decision alone.
+-- Assumes nothing.
+use mathlib.Core.Path.{_≡_, refl, sym, ap, _∙_}
+use mathlib.Core.Bool.{Bool, true, false, not, _||_}
+use mathlib.Core.List.{List}
+use Prim.Native.Nat.{ℕ, zero, suc, _+_, _-_, _^_, _≤_, _<_}
+use native.Mathlib.Omega.{arith}
+use native.Mathlib.Numerals.{add-one}
+use lib.ListN.{length}
+use Rattle.belnap.specs.declared.Decision.{Decision}
+use Rattle.belnap.specs.Decisions.{code, coded}
+use Rattle.belnap.proofs.Codes.{code-coded}
+use Rattle.table.specs.Reading.{Contents, Result, accepted, refused, reading, predicates}
+use Rattle.table.proofs.Numbers.{by-order}
+use Rattle.decide.specs.Meaning.{bit, decision}
+use Rattle.decide.specs.Requests.{Fills, Learns, AllKnown}
+use Rattle.possible.specs.Sets.{has, mask}
+use Rattle.possible.specs.Possible.{possible}
+use Rattle.possible.proofs.Masks.{mask-below, member-bit, single-mask}
+use Rattle.possible.proofs.Filling.{filling-member, learning-adds-none, known-exact}
+use Rattle.walk.specs.declared.Reply.{Reply}
+use Rattle.walk.specs.Questions.{truthSet}
+use Rattle.walk.specs.Walk.{Found, visits, walk, replyOf, sees}
+use Rattle.walk.proofs.Bits.{bit-above}
+use Rattle.walk.proofs.Budgets.{more-never-unsays, visits-bound}
+use Rattle.pierstride.specs.declared.Decided.{Decided}
+use Rattle.pierstride.specs.declared.Remaining.{Remaining}
+use Rattle.pierstride.specs.declared.Verdict.{Verdict}
+use Rattle.pierstride.specs.declared.Counts.{Counts}
+use Rattle.pierstride.specs.Masks.{beyond, knownBelow, badMasks}
+use Rattle.pierstride.specs.Services.{answered, onTable, askedWrongly, unlessWrong, countsOf, repliedOf, verdictOf}
+use Rattle.pierstride.specs.Services.{saysRead, readAnswer, decideAnswer, saysPossible, possibleAnswer, saysVerdict, verdictAnswer}
+use Rattle.pierstride.specs.Demands.{needed}
+use Rattle.pierstride.proofs.Answered.{table-of, decided, decides, remained, replies}
+use Rattle.pierstride.proofs.FirstDemand.{possible-tells}
+use Rattle.pierstride.proofs.SecondDemand.{by-reply, unlike}
+
+-- the verdict from a reading on
+abbrev fromReading : ℕ → ℕ → Result → Verdict
+fromReading q budget x =
+    verdictOf (onTable x (λ c. unlessWrong (askedWrongly (length (c .questions)) q false) (replyOf budget (walk (c .rows) (c .questions) (predicates (c .rows)) q))))
+
+-- "if some budget brings a verdict, every larger budget brings the same verdict, the same first request and the same count of visits" (3 is the reply of an
+-- unfinished walk)
+pub verdict-never-unsaid : (s : List ℕ) (q b more : ℕ) → b ≤ more → (verdictAnswer s q b .reply ≡ 3 → ⊥) → verdictAnswer s q more ≡ verdictAnswer s q b
+unfolding saysVerdict
+verdict-never-unsaid s q b more l h = on (reading s) h
+  where
+    asked : (n : ℕ) (w : Found) → (verdictOf (unlessWrong n (replyOf b w)) .reply ≡ 3 → ⊥) → verdictOf (unlessWrong n (replyOf more w)) ≡ verdictOf (unlessWrong n (replyOf b w))
+    asked zero w h = ap repliedOf (more-never-unsays b more w l (λ e. h (ap (λ (v : Reply). repliedOf v .reply) e)))
+    asked (suc n) w h = refl
+
+    on : (x : Result) → (fromReading q b x .reply ≡ 3 → ⊥) → fromReading q more x ≡ fromReading q b x
+    on (accepted c) h = asked (askedWrongly (length (c .questions)) q false) (walk (c .rows) (c .questions) (predicates (c .rows)) q) h
+    on (refused n p) h = refl
+
+-- "A budget is too small exactly if 01's walk needs more visits, and 2^(n+1) - 1 visits are always enough for n predicates."
+module _ (s : List ℕ) (c : Contents) (is : reading s ≡ accepted c) (q b : ℕ) (there : q < length (c .questions)) where
+  abbrev answer : Verdict
+  answer = verdictAnswer s q b
+
+  abbrev found : Found
+  found = walk (c .rows) (c .questions) (predicates (c .rows)) q
+
+  -- "unfinished, with the budget as the count"
+  pub unfinished-means : answer .reply ≡ 3 → (b < needed c q) × (answer .visits ≡ b)
+  unfinished-means e =
+      by-reply b found answer (replies s c is q b there)
+      (λ k w l v. unlike answer _ 3 v e (λ z. omega arith))
+      (λ m k w l v. unlike answer _ 3 v e (λ z. omega arith))
+      (λ l v. (l, ap (λ (v : Verdict). v .visits) v))
+
+  pub unfinished-if : b < needed c q → answer .reply ≡ 3
+  unfinished-if l =
+      by-reply b found answer (replies s c is q b there)
+      (λ k w g v. absurd (omega (arith, ap visits w)))
+      (λ m k w g v. absurd (omega (arith, ap visits w)))
+      (λ g v. ap (λ (v : Verdict). v .reply) v)
+
+  -- a verdict gives the walk's own count
+  pub verdict-counts : (answer .reply ≡ 3 → ⊥) → answer .visits ≡ needed c q
+  verdict-counts enough =
+      by-reply b found answer (replies s c is q b there)
+      (λ k w l v. ap (λ (v : Verdict). v .visits) v ∙ sym (ap visits w))
+      (λ m k w l v. ap (λ (v : Verdict). v .visits) v ∙ sym (ap visits w))
+      (λ l v. absurd (enough (ap (λ (v : Verdict). v .reply) v)))
+
+  pub always-enough : 2 ^ (readAnswer s .predicates + 1) - 1 ≤ b → answer .reply ≡ 3 → ⊥
+  unfolding saysRead
+  always-enough l e =
+      let n = predicates (c .rows) in
+      let m : readAnswer s .predicates ≡ n = rw is in
+      let few : 2 ^ suc n - 1 ≤ b = rw (m, add-one n) at l in
+      omega (arith, visits-bound (sees (c .rows) (c .questions) q) n 0 0, unfinished-means e .0, few)
+
+-- the set of a row, and its members: a decision counts two to the power of its code
+module _ (s : List ℕ) (r known request : ℕ) (left : possibleAnswer s r known request .refusal ≡ 0) where
+  of-table : (c : Contents) × (reading s ≡ accepted c)
+  unfolding saysPossible
+  of-table = let a = possible-tells s r known request .answers left in table-of s _ (a .0) (a .1)
+
+  abbrev pub set : ℕ
+  set = possibleAnswer s r known request .set
+
+  module _ (c : Contents) (is : reading s ≡ accepted c) where
+    set-is : set ≡ mask (possible (c .rows) known request r)
+    set-is = ap (λ (a : Remaining). a .set) (remained s c is r known request left .1)
+
+    set-has : (v : Decision) → bit set (code v) ≡ has (possible (c .rows) known request r) v
+    set-has v = ap (λ (n : ℕ). bit n (code v)) set-is ∙ member-bit (possible (c .rows) known request r) v
+
+  -- "the decision under every way of filling them in is among those shown"
+  pub possible-contains : (o : ℕ) → Fills known request o → decideAnswer s r o .refusal ≡ 0 → bit set (decideAnswer s r o .code) ≡ true
+  possible-contains o fills e =
+      let c = of-table .0 in
+      let d : decideAnswer s r o .code ≡ code (decision (c .rows) o r) = ap (λ (a : Decided). a .code) (decided s c (of-table .1) r o e .1) in
+      rw d (set-has c (of-table .1) (decision (c .rows) o r) ∙ filling-member (c .rows) known request o r fills)
+
+  -- "with nothing unknown only the true decision is left"
+  pub possible-exact : AllKnown (readAnswer s .predicates) known → (decideAnswer s r request .refusal ≡ 0) × (set ≡ 2 ^ (decideAnswer s r request .code))
+  unfolding saysRead
+  possible-exact all =
+      let c = of-table .0 in
+      let is = of-table .1 in
+      let w = remained s c is r known request left .0 in
+      let v = decision (c .rows) request r in
+      let d = decides s c is r request (w .there) (request-good (beyond known) (beyond request) (knownBelow 24 known request) (w .good)) in
+      let n : readAnswer s .predicates ≡ predicates (c .rows) = rw is in
+      rw d (refl, set-is c is ∙ ap mask (known-exact (c .rows) known request r (rw n at all)) ∙ single-mask v)
+    where
+      request-good : (a b d : Bool) → ((a || b) || not d) ≡ false → b ≡ false
+      request-good true b d e = absurd (let z : _≡_ {A = ℕ} 0 1 = cc in omega arith)
+      request-good false true d e = e
+      request-good false false d e = refl
+
+-- "Learning a fact, while the known ones stand, adds none to them": a member of the later set, by its bit, was one of the earlier
+pub possible-learns : (s : List ℕ) (r known request more then : ℕ) → Learns known request more then →
+    (now : possibleAnswer s r known request .refusal ≡ 0) (later : possibleAnswer s r more then .refusal ≡ 0) →
+    (i : ℕ) → bit (possibleAnswer s r more then .set) i ≡ true → bit (possibleAnswer s r known request .set) i ≡ true
+possible-learns s r known request more then learns now later i e = go (of-table s r known request now .0) (of-table s r known request now .1)
+  where
+    decision-kept : (c : Contents) → reading s ≡ accepted c → i < 4 → bit (possibleAnswer s r known request .set) i ≡ true
+    decision-kept c is h =
+        let v = coded i in
+        let q : code v ≡ i = code-coded i h in
+        let m = learning-adds-none (c .rows) known request more then r learns v (sym (set-has s r more then later c is v) ∙ rw q e) in
+        rw q at (set-has s r known request now c is v ∙ m)
+
+    -- a set's mask has no bit from 4 up
+    none-above : (c : Contents) → reading s ≡ accepted c → 4 ≤ i → ⊥
+    none-above c is h =
+        let small : possibleAnswer s r more then .set < 2 ^ 4 = rw (set-is s r more then later c is) (mask-below (possible (c .rows) more then r)) in
+        let z : _≡_ {A = Bool} true false = sym e ∙ bit-above (possibleAnswer s r more then .set) 4 i small h in
+        let clash : _≡_ {A = ℕ} 0 1 = cc in omega arith
+
+    go : (c : Contents) → reading s ≡ accepted c → bit (possibleAnswer s r known request .set) i ≡ true
+    go c is = by-order i 4 (decision-kept c is) (λ h. absurd (none-above c is h))
