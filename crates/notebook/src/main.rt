@@ -1,5 +1,8 @@
-// Runs every case of the old desk's notebook (01) that is not marked P, through the services, and prints each with what came back.
+// Runs every case of the old desk's notebook (01) that is not marked P, through the services, and prints each with what came back;
+// then takes rows out of tables, each as a part of the table, or with the companion's refusal.
 use libc::STDOUT_FILENO;
+use table::Outcome;
+use table::lookup;
 
 // Table A; question 2 asks if row 2 is free of conflict.
 const A: [u8; 22] = [
@@ -108,6 +111,14 @@ fn hex(n: u8) {
     io::print_hex(STDOUT_FILENO, n as u64, 2);
 }
 
+fn bytes(part: &[u8]) {
+    let mut i = 0;
+    while i < part.len() {
+        hex(part[i]);
+        i += 1;
+    }
+}
+
 // Striking a row of the strike cases' table.
 fn strikes(row: u32) {
     text(b"00 02 20 01 40 01 02, strike ");
@@ -130,6 +141,25 @@ fn strikes(row: u32) {
         i += 1;
     }
     text(b"\n");
+}
+
+// A row's own bytes, or why there are none.
+fn takes(name: &[u8], table: &[u8], row: u32) {
+    text(name);
+    text(b", row ");
+    number(row as u64);
+    text(b":");
+    let outcome = lookup::entry_outcome(table, row);
+    match outcome {
+        Outcome::Read => {
+            bytes(lookup::entry(table, row));
+            text(b"\n");
+        }
+        Outcome::Refused(refusal, place) => {
+            text(b" ");
+            refused(refusal as u32, place);
+        }
+    }
 }
 
 // 00 and 65 times 40 00 00.
@@ -167,4 +197,11 @@ fn main() {
     strikes(3);
     asks(b"00 02 20 01 40 01 02, question 0", &s, 0, 1000000);
     asks(b"00 02 20 01 40 01 02, question 0", &s, 0, 0);
+    takes(b"A", &a, 0);
+    takes(b"A", &a, 2);
+    takes(b"A", &a, 3);
+    takes(b"A", &a, 5);
+    takes(b"A", &a, 6);
+    takes(b"00 40 00 00 00", b"\x00\x40\x00\x00\x00", 0);
+    takes(b"empty table", &zeros[..0], 0);
 }

@@ -1,19 +1,23 @@
 -- Laws of one entry: its size, its bytes in an output, and what a step says of the bytes.
 -- Assumes nothing.
-use mathlib.Core.Path.{_≡_, refl, ap, _∙_}
+use mathlib.Core.Path.{_≡_, refl, sym, ap, _∙_}
 use mathlib.Core.Bool.{Bool, true, false}
 use mathlib.Core.List.{List, [], _∷_, _++_}
 use Prim.Native.Nat.{ℕ, zero, suc, _+_, _-_, _≤_, _<_}
 use native.Mathlib.Omega.{arith}
-use lib.ListN.{length, take, drop, set}
+use lib.ListN.{length, take, drop, set, length-drop}
+use lib.Dec.{ltb, leb}
 use borrow.Author.Tests.{lt-ltb, le-ltb, le-leb, lt-leb}
 use Rattle.table.specs.declared.kinds.Kind.{Kind}
 use Rattle.table.specs.declared.kinds.Kind.the-variants.{Always, DenyIf, GrantIf, One, Two, Compare, Not, Both}
+use Rattle.table.specs.declared.kinds.Names.{Names}
+use Rattle.table.specs.declared.kinds.Names.the-variants.{Nothing, Predicates, Rows, Questions}
 use Rattle.table.specs.declared.entries.Entry.{Entry}
 use Rattle.table.specs.declared.entries.Step.{Step}
 use Rattle.table.specs.declared.entries.Step.the-variants.{Bad}
 use Rattle.table.specs.Kinds.{byteOf, formOf}
-use Rattle.table.specs.Entries.{numbersOf, bytesOf, limit, misnamed, numberAt, named, placed, bodyStep, unless, over}
+use Rattle.table.specs.Entries.{numbersOf, bytesOf, limit, misnamed, numberAt, named, placed, unless, bodyRefusal, bodyStep, over}
+use Rattle.table.proofs.Numbers.{by-order}
 
 -- a body has at most two numbers, and an entry one byte more than its body
 pub few : (k : Kind) → formOf k .numbers < 3
@@ -65,6 +69,30 @@ put-two e (x ∷ []) h q = absurd (omega arith)
 put-two e (x ∷ y ∷ []) h q = absurd (omega arith)
 put-two e (x ∷ y ∷ z ∷ out) h q = (rw q) ∙ over-long e (x ∷ y ∷ z ∷ out) h
 
+-- and all of them, by what is left after the store of the first number and after that of the second
+pub put-all : (e : Entry) (out one two : List ℕ) → numbersOf e < length out →
+    (0 < numbersOf e → one ≡ set (set out 0 (byteOf (e .kind))) 1 (e .a)) → (numbersOf e ≤ 0 → one ≡ set out 0 (byteOf (e .kind))) →
+    (1 < numbersOf e → two ≡ set one 2 (e .b)) → (numbersOf e ≤ 1 → two ≡ one) → two ≡ over (bytesOf e) out
+put-all e out one two h first no-first second no-second =
+    by-order 1 (numbersOf e)
+    (λ l. second l ∙ ap (λ (o : List ℕ). set o 2 (e .b)) (first (omega arith)) ∙ put-two e out h (omega (arith, few (e .kind))))
+    (λ l. no-second l ∙ by-order 0 (numbersOf e) (λ k. first k ∙ put-one e out h (omega arith)) (λ k. no-first k ∙ put-none e out h (omega arith)))
+
+-- a step that a refusal's number may stop
+pub unless-none : (n : ℕ) (s : Step) → n ≡ 0 → unless n s ≡ s
+unless-none zero s e = refl
+unless-none (suc n) s e = absurd (omega arith)
+
+pub unless-some : (n : ℕ) (s : Step) → (n ≡ 0 → ⊥) → unless n s ≡ Bad n
+unless-some zero s h = absurd (h refl)
+unless-some (suc n) s h = refl
+
+misnamed-some : (names : Names) → misnamed names ≡ 0 → ⊥
+misnamed-some Nothing e = omega arith
+misnamed-some Predicates e = omega arith
+misnamed-some Rows e = omega arith
+misnamed-some Questions e = omega arith
+
 -- the three ways that a body goes
 module _ (kind : Kind) (body : List ℕ) (rows questions : ℕ) where
   abbrev first : ℕ
@@ -78,7 +106,7 @@ module _ (kind : Kind) (body : List ℕ) (rows questions : ℕ) where
 
   pub body-cut : length body < formOf kind .numbers → bodyStep kind body rows questions ≡ Bad 2
   unfolding bodyStep
-  body-cut h = simp (lt-ltb _ _ h)
+  body-cut h = rw (lt-ltb (length body) (formOf kind .numbers) h)
 
   pub body-named : formOf kind .numbers ≤ length body → allNamed ≡ true → bodyStep kind body rows questions ≡ placed (record { kind = kind; a = first; b = second })
   unfolding bodyStep
@@ -86,13 +114,18 @@ module _ (kind : Kind) (body : List ℕ) (rows questions : ℕ) where
 
   pub body-misnamed : formOf kind .numbers ≤ length body → allNamed ≡ false → bodyStep kind body rows questions ≡ Bad (misnamed (formOf kind .names))
   unfolding bodyStep
-  body-misnamed h e = rw (le-ltb (length body) (formOf kind .numbers) h, e)
+  body-misnamed h e = rw (le-ltb (length body) (formOf kind .numbers) h, e) (unless-some (misnamed (formOf kind .names)) _ (misnamed-some (formOf kind .names)))
 
--- a step that a refusal's number may stop
-pub unless-none : (n : ℕ) (s : Step) → n ≡ 0 → unless n s ≡ s
-unless-none zero s e = refl
-unless-none (suc n) s e = absurd (omega arith)
+  -- and all three at once, by the refusal that the code finds
+  pub body-by : (short : Bool) (why : ℕ) → ltb (length body) (formOf kind .numbers) ≡ short → why ≡ bodyRefusal short allNamed (formOf kind .names) →
+      bodyStep kind body rows questions ≡ unless why (placed (record { kind = kind; a = first; b = second }))
+  unfolding bodyStep
+  body-by short why p w = rw (w, p)
 
-pub unless-some : (n : ℕ) (s : Step) → (n ≡ 0 → ⊥) → unless n s ≡ Bad n
-unless-some zero s h = absurd (h refl)
-unless-some (suc n) s h = refl
+-- the test for a body that is cut short
+pub cut-test : (s : List ℕ) (at n : ℕ) → at < length s → ltb (length (drop (at + 1) s)) n ≡ leb (length s - at) n
+cut-test s at n h =
+    let m = length-drop (at + 1) s in
+    by-order (length (drop (at + 1) s)) n
+    (λ l. lt-ltb _ _ l ∙ sym (le-leb (length s - at) n (omega (arith, m))))
+    (λ l. le-ltb _ _ l ∙ sym (lt-leb (length s - at) n (omega (arith, m))))

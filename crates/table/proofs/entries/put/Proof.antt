@@ -1,47 +1,47 @@
 -- That `entries::put` (src/entries.rt) keeps its promise.
-use mathlib.Core.Path.{_≡_, sym, _∙_}
-use Prim.Native.Nat.{_<_}
+use mathlib.Core.Path.{_≡_, ap, _∙_}
+use mathlib.Core.Logic.{⊎-elim}
 use native.Mathlib.Omega.{arith}
-use lib.ListN.{length-set}
-use Rattle.table.specs.Entries.{numbersOf}
-use Rattle.table.proofs.OneEntry.{length-bytes, over-short, put-none, put-one, put-two}
+use lib.ListN.{length, length-set}
+use Rattle.table.proofs.OneEntry.{length-bytes, over-short, put-all}
 use borrow.Author.Needs.{needs}
 use Rattle.table.proofs.entries.put.Statement.{statement}
 use Rattle.table.proofs.entries.put.Tie as tie
 
 returns : tie.Need-returns
-returns c = let e = c .before .before .before .args .e in let n = c .before .numbers-of .ensures .0 in (rw (length-bytes e, n) (search needs), over-short e (c .before .before .before .args .out .now) (rw n at (c .if1 .taken)))
-
-returns-2 : tie.Need-returns-2
-returns-2 c =
-    let e = c .before .before .before .before .before .args .e in
-    let out = c .before .before .before .before .before .args .out .now in
-    let n = c .before .before .before .numbers-of .ensures .0 in
-    let q : numbersOf e ≡ 0 = sym n ∙ c .if2 .taken in
-    (rw (length-bytes e, q), rw (c .before .byte-of .ensures) (put-none e out (rw n at (c .before .before .if1 .left)) q))
+returns c =
+    let start = c .before .before .before .args in
+    let n = c .before .numbers-of .ensures .0 in
+    (rw (length-bytes (start .e), n) (search needs), over-short (start .e) (start .out .now) (rw n at (c .if1 .taken)))
 
 slice-write-out-2 : tie.Need-slice-write-out-2
 slice-write-out-2 c = simp length-set (omega arith)
 
-returns-3 : tie.Need-returns-3
-returns-3 c =
-    let e = c .before .before .before .before .before .before .args .e in
-    let out = c .before .before .before .before .before .before .args .out .now in
-    let n = c .before .before .before .before .numbers-of .ensures .0 in
-    let q : numbersOf e ≡ 1 = sym n ∙ c .if3 .taken in
-    (rw (length-bytes e, q), rw (c .before .before .byte-of .ensures) (put-one e out (rw n at (c .before .before .before .if1 .left)) q))
-
 slice-write-out-3 : tie.Need-slice-write-out-3
-slice-write-out-3 c = simp length-set (omega arith)
+slice-write-out-3 c =
+    ⊎-elim (λ w. omega (arith, simp length-set at (ap length (w .1)))) (λ w. omega (arith, simp length-set at (ap length (w .1)))) (c .before .if2 .came)
 
-returns-4 : tie.Need-returns-4
-returns-4 c =
-    let e = c .before .before .before .before .before .before .args .e in
-    let out = c .before .before .before .before .before .before .args .out .now in
-    let n = c .before .before .before .before .numbers-of .ensures .0 in
-    let m : numbersOf e < 3 = rw n at (c .before .before .before .before .numbers-of .ensures .1) in
-    let q : numbersOf e ≡ 2 = omega (arith, rw n at (c .before .if2 .left), rw n at (c .if3 .left)) in
-    (rw (length-bytes e, q), rw (c .before .before .byte-of .ensures) (put-two e out (rw n at (c .before .before .before .if1 .left)) q))
+same-length : tie.Need-same-length
+same-length c =
+    let start = c .before .before .before .before .before .before .args in
+    let one : length (c .before .if2 .out) ≡ length (start .out .now) =
+    ⊎-elim (λ w. ap length (w .1) ∙ simp length-set) (λ w. ap length (w .1) ∙ simp length-set) (c .before .if2 .came) in
+    ⊎-elim (λ w. ap length (w .1) ∙ simp length-set one) (λ w. ap length (w .1) ∙ one) (c .if3 .came)
+
+returns-2 : tie.Need-returns-2
+returns-2 c =
+    let stored = c .before .before in
+    let start = stored .before .before .before .before .args in
+    let n = stored .before .before .numbers-of .ensures .0 in
+    let one = c .before .if2 in
+    let two = c .if3 in (
+      rw (length-bytes (start .e), n) (search needs),
+      put-all (start .e) (start .out .now) (one .out) (two .out) (rw n at (stored .before .if1 .left))
+          (λ h. ⊎-elim (λ w. w .1 ∙ rw (stored .byte-of .ensures)) (λ w. absurd (omega (arith, n))) (one .came))
+          (λ h. ⊎-elim (λ w. absurd (omega (arith, n))) (λ w. w .1 ∙ rw (stored .byte-of .ensures)) (one .came))
+          (λ h. ⊎-elim (λ w. w .1) (λ w. absurd (omega (arith, n))) (two .came))
+          (λ h. ⊎-elim (λ w. absurd (omega (arith, n))) (λ w. w .1) (two .came)),
+    )
 
 pub put-spec : {M : Type 1} → statement M
 put-spec =
@@ -52,11 +52,8 @@ put-spec =
     returns
     (λ c κs. search needs)
     (λ c. search needs)
-    (λ c. search needs)
-    returns-2
     slice-write-out-2
-    (λ c. search needs)
-    returns-3
     slice-write-out-3
     (λ c. search needs)
-    returns-4)
+    same-length
+    returns-2)
