@@ -1,12 +1,13 @@
 -- The promise of striking, from what its code has found out once it has opened a reading.
 -- Assumes nothing.
-use mathlib.Core.Path.{_≡_, sym, ap, _∙_}
+use mathlib.Core.Path.{_≡_, refl, sym, ap, _∙_}
 use mathlib.Core.Bool.{Bool, true, false}
 use mathlib.Core.List.{List, _++_}
 use Prim.Native.Nat.{ℕ, suc, _+_, _≤_, _<_}
 use native.Mathlib.Omega.{arith}
 use lib.ListN.{length, getD, drop}
-use borrow.Author.Tests.{lt-ltb, le-ltb, le-leb, lt-leb}
+use lib.Dec.{ltb}
+use borrow.Author.Tests.{ltb-true, lt-ltb, le-ltb, le-leb, lt-leb}
 use Rattle.table.specs.declared.entries.Entry.{Entry}
 use Rattle.table.specs.declared.Table.{Table}
 use Rattle.table.specs.declared.Reading.{Reading}
@@ -17,7 +18,7 @@ use Rattle.table.proofs.Writing.{entries, of-accepted}
 use Rattle.table.proofs.Opening.{Opened, Turned}
 use Rattle.strike.specs.declared.Struck.{Struck}
 use Rattle.strike.specs.declared.Struck.the-variants.{Written, Refused}
-use Rattle.strike.specs.Strike.{closedUp, struckBytes, namedBy, refusedAs, missing, inUse, tooShort, struckAnswer, outputBy, struckOutput, held, Fits}
+use Rattle.strike.specs.Strike.{closedUp, struckBytes, namedBy, refusedAs, missing, inUse, tooShort, strikeRefusal, struckAnswer, outputBy, struckOutput, held, Fits}
 use Rattle.strike.proofs.Closing.{closed-bytes}
 use Rattle.strike.proofs.Laws.{struck-entries, output-of}
 use Rattle.strike.proofs.Filling.{table-fits, table-held, held-length, held-row}
@@ -97,3 +98,16 @@ module _ {s : List ℕ} {got : Reading} (o : Opened s got) where
           let long : tooShort (length out) r (o .contents) ≡ false = le-ltb (length out) (length (struckBytes r (o .contents))) (rw bytes at l) in
           let w = answers s r out (o .contents) (Written a) (o .is) (rw (there, used false n, long) (ap Written (sym (q .0 ∙ ap length bytes)))) in
           (w .0, q .1 ∙ ap (λ (b : List ℕ). b ++ drop a out) bytes ∙ w .1)
+
+      -- 9 and 11, from what the code finds: whether the row is named, and whether the output is too short
+      pub stopped-answers : (named short : Bool) (why : ℕ) → named ≡ namedBy r (held (got .table)) → ltb (length out) (length (written (closedUp r (held (got .table))))) ≡ short →
+          why ≡ strikeRefusal named short → (why ≡ 0 → ⊥) → Answers s r out (Refused why 0) out
+      stopped-answers true short why n l w h = rw w (named-answers (sym n))
+      stopped-answers false true why n l w h = rw w (short-answers (sym n) (ltb-true _ _ l))
+      stopped-answers false false why n l w h = absurd (h w)
+
+-- and neither
+pub unstopped : (named short : Bool) → strikeRefusal named short ≡ 0 → (named ≡ false) × (short ≡ false)
+unstopped true short e = absurd (omega arith)
+unstopped false true e = absurd (omega arith)
+unstopped false false e = (refl, refl)

@@ -13,15 +13,13 @@ use borrow.Author.Tests.{ltb-true, lt-ltb, eqb-false, ne-eqb}
 use Rattle.belnap.proofs.Finite.{both-parts}
 use Rattle.table.specs.declared.kinds.Kind.{Kind}
 use Rattle.table.specs.declared.kinds.Kind.the-variants.{Always, DenyIf, GrantIf, One, Two, Compare, Not, Both}
-use Rattle.table.specs.declared.kinds.Names.{Names}
-use Rattle.table.specs.declared.kinds.Names.the-variants.{Nothing, Predicates, Rows, Questions}
 use Rattle.table.specs.declared.entries.Entry.{Entry}
 use Rattle.table.specs.Kinds.{formOf}
 use Rattle.table.specs.Entries.{blank, bytesOf, uses}
 use Rattle.table.specs.Reading.{predicates, written}
 use Rattle.table.proofs.OneEntry.{length-bytes}
 use Rattle.table.proofs.Writing.{Sound}
-use Rattle.strike.specs.Strike.{lower, old, loweredBy, lowered, without, closedUp, names, namedBy}
+use Rattle.strike.specs.Strike.{lower, old, rowNumbers, loweredIf, lowered, without, closedUp, names, namedBy}
 use Rattle.strike.proofs.Renumbering.{lower-below, without-at, length-without}
 
 -- a disjunction that is false has both parts false
@@ -30,14 +28,12 @@ neither true q e = absurd (let z : _≡_ {A = ℕ} 0 1 = cc in omega arith)
 neither false q e = (refl, e)
 
 -- lowering keeps the kind, the size and the predicate of an entry
-kind-by : (n : Names) (r : ℕ) (e : Entry) → loweredBy n r e .kind ≡ e .kind
-kind-by Nothing r e = refl
-kind-by Predicates r e = refl
-kind-by Rows r e = refl
-kind-by Questions r e = refl
+kind-by : (rows : Bool) (r : ℕ) (e : Entry) → loweredIf rows r e .kind ≡ e .kind
+kind-by true r e = refl
+kind-by false r e = refl
 
 pub kind-kept : (r : ℕ) (e : Entry) → lowered r e .kind ≡ e .kind
-kind-kept r e = kind-by (formOf (e .kind) .names) r e
+kind-kept r e = kind-by (rowNumbers (formOf (e .kind) .names)) r e
 
 pub size-kept : (r : ℕ) (e : Entry) → length (bytesOf (lowered r e)) ≡ length (bytesOf e)
 size-kept r e = length-bytes (lowered r e) ∙ ap (λ (k : Kind). suc (formOf k .numbers)) (kind-kept r e) ∙ sym (length-bytes e)

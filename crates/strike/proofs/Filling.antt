@@ -73,15 +73,17 @@ module _ {t : Table} (f : Fits t) (r : ℕ) (u : r < t .used) where
   closed-count = omega (arith, length-closed r (held t) (omega (arith, held-length f)), held-length f)
 
   -- as the code takes it, from its old number i
-  pub closed-next : {A B C D : Type 0} (j i : ℕ) (e g : Entry) → j < t .used + t .asked - 1 →
+  pub closed-next : {A B C D : Type 0} (j i : ℕ) (g : Entry) → j < t .used + t .asked - 1 →
       (A → (j < r) × (i ≡ j)) → (B → (r ≤ j) × (i ≡ j + 1)) → A ⊎ B →
-      (C → (i < t .used) × (e ≡ getD (t .rows) i blank)) → (D → (t .used ≤ i) × (e ≡ getD (t .questions) (i - t .used) blank)) → C ⊎ D →
-      g ≡ lowered r e → g ≡ getD (closedUp r (held t)) j blank
-  closed-next j i e g l below above number row question entry q =
+      (C → (i < t .used) × (g ≡ lowered r (getD (t .rows) i blank))) → (D → (t .used ≤ i) × (g ≡ lowered r (getD (t .questions) (i - t .used) blank))) → C ⊎ D →
+      g ≡ getD (closedUp r (held t)) j blank
+  closed-next j i g l below above number row question entry =
       let o : i ≡ old r j =
       ⊎-elim (λ w. below w .1 ∙ sym (old-below r j (below w .0))) (λ w. above w .1 ∙ add-one j ∙ sym (old-above r j (above w .0))) number in
-      let m = held-at f i e (⊎-elim (λ w. let b = below w in omega arith) (λ w. let b = above w in omega arith) number) row question entry in
-      q ∙ ap (lowered r) (m ∙ ap (λ (i : ℕ). getD (held t) i blank) o) ∙ sym (closed-at r (held t) j)
+      let here : i < t .used + t .asked = ⊎-elim (λ w. let b = below w in omega arith) (λ w. let b = above w in omega arith) number in
+      let m : g ≡ lowered r (getD (held t) i blank) =
+      ⊎-elim (λ w. row w .1 ∙ ap (lowered r) (sym (held-row f i (row w .0)))) (λ w. question w .1 ∙ ap (lowered r) (sym (held-question f i (question w .0) here))) entry in
+      m ∙ ap (λ (i : ℕ). lowered r (getD (held t) i blank)) o ∙ sym (closed-at r (held t) j)
 
 -- the first j entries stand in the output, up to a place, and behind them what was there; all of them fit
 pub record Filled (es : List Entry) (before : List ℕ) (j at : ℕ) (out : List ℕ) : Type 0 where

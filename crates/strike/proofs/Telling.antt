@@ -1,4 +1,4 @@
--- What the answer of striking tells (01, "Taking one entry, and striking a row" and "When we say no"), and that its promise leaves one answer.
+-- What the answer of striking tells (01, "Taking one entry, and striking a row" and "When we say no").
 -- Assumes nothing.
 use mathlib.Core.Path.{_≡_, refl, sym, ap, _∙_}
 use mathlib.Core.Bool.{Bool, true, false, cond}
@@ -56,9 +56,3 @@ struck-read s r out n a =
       ap (λ (u : List ℕ). reading (take n u)) o ∙ ap reading (take-at (struckBytes r c) (drop n out) n (sym (d .count))) ∙ struck-accepted s r c (d .is) (d .there) (d .unnamed),
       ap (drop n) o ∙ drop-at (struckBytes r c) (drop n out) n (sym (d .count)),
     )
-
--- two answers and two outputs that meet the promise are equal
-pub one-answer : (s out : List ℕ) (r : ℕ) (x y : Struck) (u v : List ℕ) →
-    (x ≡ struckAnswer (reading s) r (length out)) × (u ≡ struckOutput (reading s) r out) →
-    (y ≡ struckAnswer (reading s) r (length out)) × (v ≡ struckOutput (reading s) r out) → (x ≡ y) × (u ≡ v)
-one-answer s out r x y u v p q = (p .0 ∙ sym (q .0), p .1 ∙ sym (q .1))

@@ -1,6 +1,6 @@
 -- Striking a row (01, "Taking one entry, and striking a row" and "When we say no").
 use Prim.Native.Nat.{ℕ, zero, suc, _-_, _≤_}
-use mathlib.Core.Bool.{Bool, false, cond, _||_}
+use mathlib.Core.Bool.{Bool, true, false, cond, _&&_, _||_}
 use mathlib.Core.List.{List, [], _∷_, _++_, map}
 use lib.ListN.{length, take, drop}
 use lib.Dec.{leb, ltb, eqb}
@@ -24,15 +24,20 @@ lower r x = cond (ltb r x) (x - 1) x
 unfoldable pub old : ℕ → ℕ → ℕ
 old r j = cond (ltb j r) j (suc j)
 
+-- whether the numbers of a body are row numbers
+abbrev pub rowNumbers : Names → Bool
+rowNumbers Nothing = false
+rowNumbers Predicates = false
+rowNumbers Rows = true
+rowNumbers Questions = false
+
 -- "wherever it occurs, question numbers unchanged": both numbers of an entry whose numbers name rows; one that is not there is 0 and stays 0
-abbrev pub loweredBy : Names → ℕ → Entry → Entry
-loweredBy Nothing r e = e
-loweredBy Predicates r e = e
-loweredBy Rows r e = record { kind = e .kind; a = lower r (e .a); b = lower r (e .b) }
-loweredBy Questions r e = e
+abbrev pub loweredIf : Bool → ℕ → Entry → Entry
+loweredIf true r e = record { kind = e .kind; a = lower r (e .a); b = lower r (e .b) }
+loweredIf false r e = e
 
 abbrev pub lowered : ℕ → Entry → Entry
-lowered r e = loweredBy (formOf (e .kind) .names) r e
+lowered r e = loweredIf (rowNumbers (formOf (e .kind) .names)) r e
 
 -- a list without the element at r
 unfoldable pub without : {A : Type 0} → ℕ → List A → List A
@@ -56,14 +61,8 @@ struckBytes r c = written (struck r c .rows ++ struck r c .questions)
 abbrev pub isAt : ℕ → ℕ → ℕ → ℕ → Bool
 isAt r numbers i x = cond (ltb i numbers) (eqb x r) false
 
-abbrev pub namesBy : Names → ℕ → Entry → Bool
-namesBy Nothing r e = false
-namesBy Predicates r e = false
-namesBy Rows r e = isAt r (numbersOf e) 0 (e .a) || isAt r (numbersOf e) 1 (e .b)
-namesBy Questions r e = false
-
 abbrev pub names : ℕ → Entry → Bool
-names r e = namesBy (formOf (e .kind) .names) r e
+names r e = rowNumbers (formOf (e .kind) .names) && (isAt r (numbersOf e) 0 (e .a) || isAt r (numbersOf e) 1 (e .b))
 
 -- whether some entry of a list does
 unfoldable pub namedBy : ℕ → List Entry → Bool
@@ -86,6 +85,10 @@ inUse r c = namedBy r (c .rows ++ c .questions)
 -- 11, "the output is shorter than the bytes to write"
 abbrev pub tooShort : ℕ → ℕ → Contents → Bool
 tooShort room r c = ltb room (length (struckBytes r c))
+
+-- 9, then 11; 0 for neither
+abbrev pub strikeRefusal : Bool → Bool → ℕ
+strikeRefusal named short = cond named 9 (cond short 11 0)
 
 -- reading's own refusal, then these in their order; otherwise "the length comes back"
 unfoldable pub struckAnswer : Result → ℕ → ℕ → Struck

@@ -8,7 +8,7 @@ ghost use mathlib.Core.List.{_++_};
 ghost use Prim.Native.Nat.{_≤_, _<_};
 ghost use lib.ListN.{length, drop};
 ghost use Rattle.table.specs.Reading.{reading, written};
-ghost use Rattle.strike.specs.Strike.{lower, lowered, closedUp, isAt, names, namedBy, refusedAs, struckAnswer, struckOutput, held, Fits};
+ghost use Rattle.strike.specs.Strike.{lower, rowNumbers, lowered, closedUp, isAt, names, namedBy, refusedAs, strikeRefusal, struckAnswer, struckOutput, held, Fits};
 
 // How many bytes were written, or a refusal's number and place.
 pub enum Struck {
@@ -27,6 +27,18 @@ fn lower_of(r: usize, x: u8) -> u8
     }
 }
 
+// Whether the numbers of a body are row numbers.
+fn row_numbers(names: Names) -> bool
+    ensures { λ b. ⌜ b ≡ rowNumbers names ⌝ }
+{
+    match names {
+        Names::Nothing => false,
+        Names::Predicates => false,
+        Names::Rows => true,
+        Names::Questions => false,
+    }
+}
+
 // An entry as it stands once row r is struck.
 fn lowered_of(r: usize, e: Entry) -> Entry
     ensures { λ f. ⌜ f ≡ lowered r e ⌝ }
@@ -34,15 +46,12 @@ fn lowered_of(r: usize, e: Entry) -> Entry
     let kind = e.kind;
     let form = table::kinds::form_of(kind);
     let names = form.names;
-    match names {
-        Names::Nothing => e,
-        Names::Predicates => e,
-        Names::Rows => {
-            let a = lower_of(r, e.a);
-            let b = lower_of(r, e.b);
-            Entry { kind, a, b }
-        }
-        Names::Questions => e,
+    if row_numbers(names) {
+        let a = lower_of(r, e.a);
+        let b = lower_of(r, e.b);
+        Entry { kind, a, b }
+    } else {
+        e
     }
 }
 
@@ -65,12 +74,7 @@ fn names_row(r: usize, e: Entry) -> bool
     let form = table::kinds::form_of(kind);
     let names = form.names;
     let numbers = form.numbers;
-    match names {
-        Names::Nothing => false,
-        Names::Predicates => false,
-        Names::Rows => is_at(r, numbers, 0, e.a) | is_at(r, numbers, 1, e.b),
-        Names::Questions => false,
-    }
+    row_numbers(names) & (is_at(r, numbers, 0, e.a) | is_at(r, numbers, 1, e.b))
 }
 
 // Whether some row or question names row r.
@@ -107,11 +111,13 @@ fn write(t: Table, r: usize, out: &mut [u8]) -> usize
     while j < count {
         let i = if j < r { j } else { j + 1 };
         let e = if i < used {
-            t.rows[i]
+            let row = t.rows[i];
+            lowered_of(r, row)
         } else {
-            t.questions[i - used]
+            let question = t.questions[i - used];
+            lowered_of(r, question)
         };
-        let n = table::entries::put(&mut out[at..], lowered_of(r, e));
+        let n = table::entries::put(&mut out[at..], e);
         at = at + n;
         j += 1;
     }
@@ -129,6 +135,16 @@ fn refused(outcome: Outcome) -> Struck
     }
 }
 
+// 9 where the row is named, then 11 where the output is too short; 0 for neither.
+fn strike_refusal(named: bool, short: bool) -> u8
+    ensures { λ n. ⌜ n ≡ strikeRefusal named short ⌝ }
+{
+    if named {
+        return 9;
+    }
+    if short { 11 } else { 0 }
+}
+
 // The table without row `row`, over the front of the output; nothing is written before every refusal is ruled out.
 pub fn strike(table: &[u8], row: u32, out: &mut [u8]) -> Struck
     ensures { λ r. ⌜ (r ≡ struckAnswer (reading (now (table .entry))) row (length (now (out .entry)))) × (now (out .exit) ≡ struckOutput (reading (now (table .entry))) row (now (out .entry))) ⌝ }
@@ -143,13 +159,11 @@ pub fn strike(table: &[u8], row: u32, out: &mut [u8]) -> Struck
     if t.used <= r {
         return Struck::Refused(8, 0);
     }
-    if named(t, r) {
-        return Struck::Refused(9, 0);
-    }
     let e = t.rows[r];
     let length = table.len() - table::entries::numbers_of(e) - 1;
-    if out.len() < length {
-        return Struck::Refused(11, 0);
+    let why = strike_refusal(named(t, r), out.len() < length);
+    if why != 0 {
+        return Struck::Refused(why, 0);
     }
     Struck::Written(write(t, r, out))
 }

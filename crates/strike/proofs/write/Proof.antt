@@ -1,5 +1,5 @@
 -- That `write` (src/lib.rt) keeps its promise.
-use mathlib.Core.Path.{refl}
+use mathlib.Core.Path.{refl, _∙_}
 use mathlib.Core.Logic.{⊎-elim}
 use Prim.Native.Nat.{_≤_, _<_, _-_}
 use native.Mathlib.Omega.{arith}
@@ -19,47 +19,51 @@ abbrev μ-loop : tie.MeasureT-loop
 loop-holds : tie.Need-loop-holds Inv-loop μ-loop
 loop-holds c = (omega arith, filled-none (closedUp (c .before .args .r) (held (c .before .args .t1))) (c .before .args .out .now) (c .before .pre .2))
 
-mul-e-2 : tie.Need-mul-e-2 Inv-loop μ-loop
-mul-e-2 c = record { fits = ⊎-elim (λ w. omega arith) (λ w. omega arith) (c .before .before .if1 .came) }
+mul-question : tie.Need-mul-question Inv-loop μ-loop
+mul-question c = record { fits = ⊎-elim (λ w. omega arith) (λ w. omega arith) (c .before .before .if1 .came) }
 
-element-copy-out-e-2 : tie.Need-element-copy-out-e-2 Inv-loop μ-loop
-element-copy-out-e-2 c = ⊎-elim (λ w. omega arith) (λ w. omega arith) (c .before .before .if1 .came)
+element-copy-out-question : tie.Need-element-copy-out-question Inv-loop μ-loop
+element-copy-out-question c = ⊎-elim (λ w. omega arith) (λ w. omega arith) (c .before .before .if1 .came)
 
 sub-put : tie.Need-sub-put Inv-loop μ-loop
-sub-put c = omega (arith, filled-within (c .before .before .before .loop .inv .1), filled-length (c .before .before .before .loop .inv .1))
+sub-put c = let filled = c .before .before .before .loop .inv .1 in omega (arith, filled-within filled, filled-length filled)
 
 part-put-start : tie.Need-part-put-start Inv-loop μ-loop
-part-put-start c = omega (arith, filled-within (c .before .before .before .loop .inv .1), filled-length (c .before .before .before .loop .inv .1))
+part-put-start c = let filled = c .before .before .before .loop .inv .1 in omega (arith, filled-within filled, filled-length filled)
 
 add-at : tie.Need-add-at Inv-loop μ-loop
 add-at c =
-    let start = c .before .before .before .before .before .before .before .before .before .before in
-    let at = c .before .before .before .before .before .before .before .before .loop in
+    let put = c .before .before in
+    let entry = put .before .before in
+    let number = entry .before in
+    let loop = number .before .before in
+    let start = loop .before .before in
+    let at = loop .loop in
     let r = start .args .r in
+    let e = entry .if2 in
     let here : at .j < length (closedUp r (held (start .args .t1))) = omega (arith, closed-count (start .pre .0) r (start .pre .1)) in
-    let number = c .before .before .before .before .before .before .if1 in
-    let entry = c .before .before .before .before .before .if2 in
-    let g = c .before .before .before .lowered-of in
     let next =
-    closed-next (start .pre .0) r (start .pre .1) (at .j) (number .i) (entry .e) (g .result) (omega arith)
-    (λ w. (w .0 .taken, w .1)) (λ w. (w .0 .left, w .1)) (number .came) (λ w. (w .0 .taken, w .3)) (λ w. (w .0 .left, w .3)) (entry .came) (g .ensures) in
-    let p = c .before .before .put in
-    record { fits = omega (arith, p .ensures .0, filled-room (at .inv .1) here (g .result) next) }
+    closed-next (start .pre .0) r (start .pre .1) (at .j) (number .if1 .i) (e .e) (omega arith)
+    (λ w. (w .0 .taken, w .1)) (λ w. (w .0 .left, w .1)) (number .if1 .came) (λ w. (w .0 .taken, w .4 ∙ w .3 .ensures)) (λ w. (w .0 .left, w .4 ∙ w .3 .ensures)) (e .came) in
+    let p = put .put in
+    record { fits = omega (arith, p .ensures .0, filled-room (at .inv .1) here (e .e) next) }
 
 loop-again : tie.Need-loop-again Inv-loop μ-loop
 loop-again c =
-    let start = c .before .before .before .before .before .before .before .before .before .before in
-    let at = c .before .before .before .before .before .before .before .before .loop in
+    let put = c .before .before in
+    let entry = put .before .before in
+    let number = entry .before in
+    let loop = number .before .before in
+    let start = loop .before .before in
+    let at = loop .loop in
     let r = start .args .r in
+    let e = entry .if2 in
     let here : at .j < length (closedUp r (held (start .args .t1))) = omega (arith, closed-count (start .pre .0) r (start .pre .1)) in
-    let number = c .before .before .before .before .before .before .if1 in
-    let entry = c .before .before .before .before .before .if2 in
-    let g = c .before .before .before .lowered-of in
     let next =
-    closed-next (start .pre .0) r (start .pre .1) (at .j) (number .i) (entry .e) (g .result) (omega arith)
-    (λ w. (w .0 .taken, w .1)) (λ w. (w .0 .left, w .1)) (number .came) (λ w. (w .0 .taken, w .3)) (λ w. (w .0 .left, w .3)) (entry .came) (g .ensures) in
-    let p = c .before .before .put in
-    (omega arith, filled-more (at .inv .1) here (g .result) next (length (at .out) - at .at) (p .result) (p .last .0) refl (p .ensures .0) (p .ensures .1))
+    closed-next (start .pre .0) r (start .pre .1) (at .j) (number .if1 .i) (e .e) (omega arith)
+    (λ w. (w .0 .taken, w .1)) (λ w. (w .0 .left, w .1)) (number .if1 .came) (λ w. (w .0 .taken, w .4 ∙ w .3 .ensures)) (λ w. (w .0 .left, w .4 ∙ w .3 .ensures)) (e .came) in
+    let p = put .put in
+    (omega arith, filled-more (at .inv .1) here (e .e) next (length (at .out) - at .at) (p .result) (p .last .0) refl (p .ensures .0) (p .ensures .1))
 
 same-length : tie.Need-same-length Inv-loop μ-loop
 same-length c = filled-length (c .before .loop .inv .1)
@@ -81,12 +85,13 @@ write-spec =
     (λ c. search needs)
     (λ c. search needs)
     (λ c. search needs)
-    mul-e-2
-    element-copy-out-e-2
+    (λ c κs. search needs)
+    mul-question
+    element-copy-out-question
+    (λ c κs. search needs)
     sub-put
     part-put-start
     (λ c. search needs)
-    (λ c κs. search needs)
     (λ c κs. search needs)
     add-at
     (λ c. search needs)
