@@ -87,6 +87,8 @@ fn walk_from(
             if k == n {
                 return Reply::Holds(1);
             }
+            let no = facts;
+            let yes = with_yes(facts, k);
             let first = walk_from(
                 rows,
                 questions,
@@ -96,13 +98,12 @@ fn walk_from(
                 question,
                 n,
                 k + 1,
-                facts,
+                no,
                 budget - 1,
             );
             let Reply::Holds(a) = first else {
                 return plus(first, 1, budget);
             };
-            let more = with_yes(facts, k);
             let second = walk_from(
                 rows,
                 questions,
@@ -112,7 +113,7 @@ fn walk_from(
                 question,
                 n,
                 k + 1,
-                more,
+                yes,
                 budget - 1 - a,
             );
             plus(second, 1 + a, budget)
