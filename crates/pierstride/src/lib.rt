@@ -77,9 +77,9 @@ fn refusal_of(outcome: Outcome) -> Refusal
             number: 0,
             place: 0,
         },
-        Outcome::Refused(number, place) => Refusal {
+        Outcome::Refused(number, at) => Refusal {
             number: number as u32,
-            place,
+            place: at,
         },
     }
 }
