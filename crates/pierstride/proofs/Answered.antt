@@ -35,24 +35,22 @@ pub record Well (count at : ℕ) (bad : Bool) : Type 0 where
   pub there : at < count
   pub good : bad ≡ false
 
-well : (count at : ℕ) (bad : Bool) → askedWrongly count at bad ≡ 0 → Well count at bad
-unfolding askedWrongly
+well : (count at : ℕ) (bad : Bool) → askedWrongly (leb count at) bad ≡ 0 → Well count at bad
 well count at bad e = go (leb count at) bad refl refl e
   where
-    go : (a b : Bool) → leb count at ≡ a → bad ≡ b → _≡_ {A = ℕ} (cond a 8 (cond b 10 0)) 0 → Well count at bad
+    go : (a b : Bool) → leb count at ≡ a → bad ≡ b → askedWrongly a b ≡ 0 → Well count at bad
     go true b p q e = absurd (omega arith)
     go false true p q e = absurd (omega arith)
     go false false p q e = record { there = leb-false count at p; good = q }
 
 -- and then nothing is wrong with it
-asked-right : (count at : ℕ) → at < count → askedWrongly count at false ≡ 0
-unfolding askedWrongly
+asked-right : (count at : ℕ) → at < count → askedWrongly (leb count at) false ≡ 0
 asked-right count at h = rw (lt-leb count at h)
 
 -- the services on an accepted table
 module _ (s : List ℕ) (c : Contents) (is : reading s ≡ accepted c) where
   module _ (r request : ℕ) where
-    decide-says : saysDecide s r request ≡ unlessWrong (askedWrongly (length (c .rows)) r (beyond request)) (decision (c .rows) request r)
+    decide-says : saysDecide s r request ≡ unlessWrong (askedWrongly (leb (length (c .rows)) r) (beyond request)) (decision (c .rows) request r)
     unfolding saysDecide
     decide-says = rw is
 
@@ -66,7 +64,7 @@ module _ (s : List ℕ) (c : Contents) (is : reading s ≡ accepted c) where
     decides h g = ap decidedOf decide-says ∙ rw (g, asked-right (length (c .rows)) r h)
 
   module _ (r known request : ℕ) where
-    possible-says : saysPossible s r known request ≡ unlessWrong (askedWrongly (length (c .rows)) r (badMasks known request)) (possible (c .rows) known request r)
+    possible-says : saysPossible s r known request ≡ unlessWrong (askedWrongly (leb (length (c .rows)) r) (badMasks known request)) (possible (c .rows) known request r)
     unfolding saysPossible
     possible-says = rw is
 

@@ -60,15 +60,11 @@ on-table own s f h = go (reading s) refl
     go (refused n p) e = inl (refused-within s n p e)
 
 -- 8, then 10
-asked : {A : Type 0} (own s : List ℕ) (count at : ℕ) (bad : Bool) (v : A) → isAmong own 8 ≡ true → (bad ≡ true → isAmong own 10 ≡ true) →
-    DueOf own s (unlessWrong (askedWrongly count at bad) v)
-unfolding askedWrongly
-asked own s count at bad v e f = go (leb count at) bad f
-  where
-    go : (a b : Bool) → (b ≡ true → isAmong own 10 ≡ true) → DueOf own s (unlessWrong (cond a 8 (cond b 10 0)) v)
-    go true b f = inr (e, refl)
-    go false true f = inr (f refl, refl)
-    go false false f = tt
+asked : {A : Type 0} (own s : List ℕ) (missing bad : Bool) (v : A) → isAmong own 8 ≡ true → (bad ≡ true → isAmong own 10 ≡ true) →
+    DueOf own s (unlessWrong (askedWrongly missing bad) v)
+asked own s true bad v e f = inr (e, refl)
+asked own s false true v e f = inr (f refl, refl)
+asked own s false false v e f = tt
 
 -- each service
 pub read-tells : (s : List ℕ) → Tells noOwn s (saysRead s) (readAnswer s .refusal) (readAnswer s .place)
@@ -80,20 +76,20 @@ pub decide-tells : (s : List ℕ) (r request : ℕ) → Tells ofDeciding s (says
 unfolding saysDecide
 decide-tells s r request =
     tells ofDeciding s decidedOf (λ a. a .refusal) (λ a. a .place) refl (λ v. (refl, refl)) (λ n p. (refl, refl)) (saysDecide s r request)
-    (on-table ofDeciding s _ (λ c. asked ofDeciding s (length (c .rows)) r (beyond request) _ refl (λ e. refl)))
+    (on-table ofDeciding s _ (λ c. asked ofDeciding s (leb (length (c .rows)) r) (beyond request) _ refl (λ e. refl)))
 
 pub possible-tells : (s : List ℕ) (r known request : ℕ) →
     Tells ofDeciding s (saysPossible s r known request) (possibleAnswer s r known request .refusal) (possibleAnswer s r known request .place)
 unfolding saysPossible
 possible-tells s r known request =
     tells ofDeciding s remainingOf (λ a. a .refusal) (λ a. a .place) refl (λ v. (refl, refl)) (λ n p. (refl, refl)) (saysPossible s r known request)
-    (on-table ofDeciding s _ (λ c. asked ofDeciding s (length (c .rows)) r (badMasks known request) _ refl (λ e. refl)))
+    (on-table ofDeciding s _ (λ c. asked ofDeciding s (leb (length (c .rows)) r) (badMasks known request) _ refl (λ e. refl)))
 
 pub verdict-tells : (s : List ℕ) (q budget : ℕ) → Tells ofAsking s (saysVerdict s q budget) (verdictAnswer s q budget .refusal) (verdictAnswer s q budget .place)
 unfolding saysVerdict
 verdict-tells s q budget =
     tells ofAsking s verdictOf (λ a. a .refusal) (λ a. a .place) refl answering (λ n p. (refl, refl)) (saysVerdict s q budget)
-    (on-table ofAsking s _ (λ c. asked ofAsking s (length (c .questions)) q false _ refl (λ e. absurd (let z : _≡_ {A = ℕ} 0 1 = cc in omega arith))))
+    (on-table ofAsking s _ (λ c. asked ofAsking s (leb (length (c .questions)) q) false _ refl (λ e. absurd (let z : _≡_ {A = ℕ} 0 1 = cc in omega arith))))
   where
     answering : (reply : Reply) → (repliedOf reply .refusal ≡ 0) × (repliedOf reply .place ≡ 0)
     answering (Holds n) = (refl, refl)

@@ -139,12 +139,12 @@ module _ (s out : List ℕ) (r : ℕ) (done : strikeAnswer s r out .refusal ≡ 
   new-read = rw (wrote .1) (struck-read s r out (wrote .0) (wrote .1) .0)
 
   pub strike-keeps-decisions : (i request : ℕ) → (i ≡ r → ⊥) → decideAnswer new (lower r i) request ≡ decideAnswer s i request
-  unfolding saysDecide askedWrongly
+  unfolding saysDecide
   strike-keeps-decisions i request other =
       rw (new-read, of .is, still-there (of .contents) r whole (of .unnamed) (of .there) i other, decides-as-before (of .contents) r whole (of .unnamed) request i other)
 
   pub strike-keeps-sets : (i known request : ℕ) → (i ≡ r → ⊥) → possibleAnswer new (lower r i) known request ≡ possibleAnswer s i known request
-  unfolding saysPossible askedWrongly
+  unfolding saysPossible
   strike-keeps-sets i known request other =
       rw (new-read, of .is, still-there (of .contents) r whole (of .unnamed) (of .there) i other, possible-as-before (of .contents) r whole (of .unnamed) known request i other)
 

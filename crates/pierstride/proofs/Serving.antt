@@ -6,6 +6,7 @@ use mathlib.Core.List.{List}
 use Prim.Native.Nat.{ℕ, zero, suc, _≤_, _<_}
 use native.Mathlib.Omega.{arith}
 use lib.ListN.{length, getD}
+use lib.Dec.{leb}
 use borrow.Author.Tests.{lt-ltb, le-leb}
 use Rattle.belnap.specs.declared.Decision.{Decision}
 use Rattle.belnap.specs.declared.Decision.the-variants.{U}
@@ -45,8 +46,7 @@ wrong (suc n) v h = refl
 right : {A : Type 0} (n : ℕ) (v : A) → n ≡ 0 → unlessWrong n v ≡ answered v
 right n v e = rw e
 
-pub asked-there : (count at : ℕ) (bad : Bool) → askedWrongly count at bad ≡ 0 → at < count
-unfolding askedWrongly
+pub asked-there : (count at : ℕ) (bad : Bool) → askedWrongly (leb count at) bad ≡ 0 → at < count
 asked-there count at bad e = by-order at count (λ h. h) (λ h. absurd (let z : _≡_ {A = ℕ} 8 0 = rw (le-leb count at h) at e in omega arith))
 
 -- the struct of an opened reading shows the table's contents
@@ -77,11 +77,11 @@ module _ {s : List ℕ} {got : Reading} (o : Opened s got) where
   counts-answer = rw (o .is, used-is, asked-is, predicates-is)
 
   -- a number that no table has room for is not among the rows
-  row-there : (at why : ℕ) (bad : Bool) → why ≡ askedWrongly (got .table .used) at bad → why ≡ 0 → at < rowLimit
+  row-there : (at why : ℕ) (bad : Bool) → why ≡ askedWrongly (leb (got .table .used) at) bad → why ≡ 0 → at < rowLimit
   row-there at why bad w e = omega (arith, asked-there (got .table .used) at bad (sym w ∙ e), used-is, o .whole .rows-fit)
 
   -- `why` is what the code found wrong with what was asked, from whether it found the masks bad
-  module _ (at request why : ℕ) (bad : Bool) (b : bad ≡ beyond request) (w : why ≡ askedWrongly (got .table .used) at bad) where
+  module _ (at request why : ℕ) (bad : Bool) (b : bad ≡ beyond request) (w : why ≡ askedWrongly (leb (got .table .used) at) bad) where
     decide-said : saysDecide s at request ≡ unlessWrong why (decision (o .contents .rows) request at)
     unfolding saysDecide
     decide-said = rw (o .is, w, b, used-is)
@@ -95,7 +95,7 @@ module _ {s : List ℕ} {got : Reading} (o : Opened s got) where
         let d : v ≡ decision (o .contents .rows) request at = q ∙ rw (lt-ltb at rowLimit (row-there at why bad w e)) same in
         sym (ap decidedOf (decide-said ∙ right why _ e ∙ ap answered (sym d)))
 
-  module _ (at known request why : ℕ) (bad : Bool) (b : bad ≡ badMasks known request) (w : why ≡ askedWrongly (got .table .used) at bad) where
+  module _ (at known request why : ℕ) (bad : Bool) (b : bad ≡ badMasks known request) (w : why ≡ askedWrongly (leb (got .table .used) at) bad) where
     possible-said : saysPossible s at known request ≡ unlessWrong why (possible (o .contents .rows) known request at)
     unfolding saysPossible
     possible-said = rw (o .is, w, b, used-is)
@@ -110,7 +110,7 @@ module _ {s : List ℕ} {got : Reading} (o : Opened s got) where
         let d : n ≡ mask (possible (o .contents .rows) known request at) = q ∙ rw (lt-ltb at rowLimit (row-there at why bad w e)) (ap mask same) in
         rw d (sym (ap remainingOf (possible-said ∙ right why _ e)))
 
-  module _ (at budget why : ℕ) (w : why ≡ askedWrongly (got .table .asked) at false) where
+  module _ (at budget why : ℕ) (w : why ≡ askedWrongly (leb (got .table .asked) at) false) where
     abbrev walked : Reply
     walked = replyOf budget (walk (o .contents .rows) (o .contents .questions) (predicates (o .contents .rows)) at)
 

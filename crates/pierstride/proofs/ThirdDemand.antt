@@ -9,6 +9,7 @@ use Prim.Native.Nat.{ℕ, zero, suc, _+_, _-_, _^_, _≤_, _<_}
 use native.Mathlib.Omega.{arith}
 use native.Mathlib.Numerals.{add-one}
 use lib.ListN.{length}
+use lib.Dec.{leb}
 use Rattle.belnap.specs.declared.Decision.{Decision}
 use Rattle.belnap.specs.Decisions.{code, coded}
 use Rattle.belnap.proofs.Codes.{code-coded}
@@ -40,7 +41,7 @@ use Rattle.pierstride.proofs.SecondDemand.{by-reply, unlike}
 -- the verdict from a reading on
 abbrev fromReading : ℕ → ℕ → Result → Verdict
 fromReading q budget x =
-    verdictOf (onTable x (λ c. unlessWrong (askedWrongly (length (c .questions)) q false) (replyOf budget (walk (c .rows) (c .questions) (predicates (c .rows)) q))))
+    verdictOf (onTable x (λ c. unlessWrong (askedWrongly (leb (length (c .questions)) q) false) (replyOf budget (walk (c .rows) (c .questions) (predicates (c .rows)) q))))
 
 -- "if some budget brings a verdict, every larger budget brings the same verdict, the same first request and the same count of visits" (3 is the reply of an
 -- unfinished walk)
@@ -53,7 +54,7 @@ verdict-never-unsaid s q b more l h = on (reading s) h
     asked (suc n) w h = refl
 
     on : (x : Result) → (fromReading q b x .reply ≡ 3 → ⊥) → fromReading q more x ≡ fromReading q b x
-    on (accepted c) h = asked (askedWrongly (length (c .questions)) q false) (walk (c .rows) (c .questions) (predicates (c .rows)) q) h
+    on (accepted c) h = asked (askedWrongly (leb (length (c .questions)) q) false) (walk (c .rows) (c .questions) (predicates (c .rows)) q) h
     on (refused n p) h = refl
 
 -- "A budget is too small exactly if 01's walk needs more visits, and 2^(n+1) - 1 visits are always enough for n predicates."

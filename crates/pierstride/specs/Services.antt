@@ -42,8 +42,8 @@ onTable (accepted c) f = f c
 onTable (refused n p) f = refusing n p
 
 -- 8, "the row or question asked for is not there"; then 10, "a mask bit above 23, or yes without known"; 0 for neither
-unfoldable pub askedWrongly : ℕ → ℕ → Bool → ℕ
-askedWrongly count at bad = cond (leb count at) 8 (cond bad 10 0)
+abbrev pub askedWrongly : Bool → Bool → ℕ
+askedWrongly missing bad = cond missing 8 (cond bad 10 0)
 
 -- an answer, unless there is such a refusal: its place is 0
 abbrev pub unlessWrong : {A : Type 0} → ℕ → A → Said A
@@ -72,7 +72,7 @@ decidedOf (answered v) = record { refusal = 0; place = 0; code = code v }
 decidedOf (refusing n p) = record { refusal = n; place = p; code = 0 }
 
 unfoldable pub saysDecide : List ℕ → ℕ → ℕ → Said Decision
-saysDecide s r request = onTable (reading s) (λ c. unlessWrong (askedWrongly (length (c .rows)) r (beyond request)) (decision (c .rows) request r))
+saysDecide s r request = onTable (reading s) (λ c. unlessWrong (askedWrongly (leb (length (c .rows)) r) (beyond request)) (decision (c .rows) request r))
 
 abbrev pub decideAnswer : List ℕ → ℕ → ℕ → Decided
 decideAnswer s r request = decidedOf (saysDecide s r request)
@@ -84,7 +84,7 @@ remainingOf (refusing n p) = record { refusal = n; place = p; set = 0 }
 
 unfoldable pub saysPossible : List ℕ → ℕ → ℕ → ℕ → Said Set
 saysPossible s r known request =
-    onTable (reading s) (λ c. unlessWrong (askedWrongly (length (c .rows)) r (badMasks known request)) (possible (c .rows) known request r))
+    onTable (reading s) (λ c. unlessWrong (askedWrongly (leb (length (c .rows)) r) (badMasks known request)) (possible (c .rows) known request r))
 
 abbrev pub possibleAnswer : List ℕ → ℕ → ℕ → ℕ → Remaining
 possibleAnswer s r known request = remainingOf (saysPossible s r known request)
@@ -101,7 +101,7 @@ verdictOf (refusing n p) = record { refusal = n; place = p; reply = 0; request =
 
 unfoldable pub saysVerdict : List ℕ → ℕ → ℕ → Said Reply
 saysVerdict s q budget =
-    onTable (reading s) (λ c. unlessWrong (askedWrongly (length (c .questions)) q false) (replyOf budget (walk (c .rows) (c .questions) (predicates (c .rows)) q)))
+    onTable (reading s) (λ c. unlessWrong (askedWrongly (leb (length (c .questions)) q) false) (replyOf budget (walk (c .rows) (c .questions) (predicates (c .rows)) q)))
 
 abbrev pub verdictAnswer : List ℕ → ℕ → ℕ → Verdict
 verdictAnswer s q budget = verdictOf (saysVerdict s q budget)

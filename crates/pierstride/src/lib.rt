@@ -155,11 +155,11 @@ fn mask_beyond(mask: u32) -> bool
     16777216 <= mask
 }
 
-// Why what was asked is not answered: 8 where there are too few rows or questions, then 10 where the masks are bad; 0 for neither.
-fn asked_wrongly(count: usize, at: usize, bad: bool) -> u32
-    ensures { λ r. ⌜ r ≡ askedWrongly count at bad ⌝ }
+// Why what was asked is not answered: 8 where the row or question is not there, then 10 where the masks are bad; 0 for neither.
+fn asked_wrongly(missing: bool, bad: bool) -> u32
+    ensures { λ r. ⌜ r ≡ askedWrongly missing bad ⌝ }
 {
-    if count <= at {
+    if missing {
         return 8;
     }
     if bad { 10 } else { 0 }
@@ -177,7 +177,7 @@ pub extern "C" fn pier_decide(table: &[u8], row: u32, request: u32) -> Decided
     };
     let t = got.table;
     let at = row as usize;
-    let why = asked_wrongly(t.used, at, mask_beyond(request));
+    let why = asked_wrongly(t.used <= at, mask_beyond(request));
     if why != 0 {
         return no_decision(Refusal {
             number: why,
@@ -225,7 +225,7 @@ pub extern "C" fn pier_possible(table: &[u8], row: u32, known: u32, request: u32
     };
     let t = got.table;
     let at = row as usize;
-    let why = asked_wrongly(t.used, at, masks_bad(known, request));
+    let why = asked_wrongly(t.used <= at, masks_bad(known, request));
     if why != 0 {
         return no_set(Refusal {
             number: why,
@@ -281,7 +281,7 @@ pub extern "C" fn pier_verdict(table: &[u8], question: u32, budget: u32) -> Verd
     };
     let t = got.table;
     let at = question as usize;
-    let why = asked_wrongly(t.asked, at, false);
+    let why = asked_wrongly(t.asked <= at, false);
     if why != 0 {
         return no_verdict(Refusal {
             number: why,

@@ -21,7 +21,7 @@ returns-2 : tie.Need-returns-2
 returns-2 c =
     let asked = c .before .before in
     let masks = asked .before in
-    let told = masks .before .before in
+    let told = masks .before .before .before in
     let got = told .before .before .read in
     let start = told .before .before .before .before .args in
     let o = opened (start .table .now) (got .result) (got .ensures) (told .enum-told .given .1) in
@@ -33,7 +33,7 @@ returns-3 : tie.Need-returns-3
 returns-3 c =
     let asked = c .before .before .before in
     let masks = asked .before in
-    let told = masks .before .before in
+    let told = masks .before .before .before in
     let got = told .before .before .read in
     let start = told .before .before .before .before .args in
     let o = opened (start .table .now) (got .result) (got .ensures) (told .enum-told .given .1) in

@@ -20,7 +20,7 @@ returns c =
 returns-2 : tie.Need-returns-2
 returns-2 c =
     let asked = c .before .before in
-    let told = asked .before .before in
+    let told = asked .before .before .before in
     let got = told .before .before .read in
     let start = told .before .before .before .before .args in
     let o = opened (start .table .now) (got .result) (got .ensures) (told .enum-told .given .1) in
@@ -30,7 +30,7 @@ returns-2 c =
 verdict-requires : tie.Need-verdict-requires
 verdict-requires c κs =
     let asked = c .before in
-    let told = asked .before .before in
+    let told = asked .before .before .before in
     let got = told .before .before .read in
     let start = told .before .before .before .before .args in
     let o = opened (start .table .now) (got .result) (got .ensures) (told .enum-told .given .1) in
@@ -40,7 +40,7 @@ verdict-requires c κs =
 returns-3 : tie.Need-returns-3
 returns-3 c =
     let asked = c .before .before .before in
-    let told = asked .before .before in
+    let told = asked .before .before .before in
     let got = told .before .before .read in
     let start = told .before .before .before .before .args in
     let o = opened (start .table .now) (got .result) (got .ensures) (told .enum-told .given .1) in
