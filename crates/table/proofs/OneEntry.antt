@@ -16,7 +16,7 @@ use Rattle.table.specs.declared.entries.Entry.{Entry}
 use Rattle.table.specs.declared.entries.Step.{Step}
 use Rattle.table.specs.declared.entries.Step.the-variants.{Bad}
 use Rattle.table.specs.Kinds.{byteOf, formOf}
-use Rattle.table.specs.Entries.{numbersOf, bytesOf, limit, misnamed, numberAt, named, placed, unless, bodyRefusal, bodyStep, over}
+use Rattle.table.specs.Entries.{rowLimit, questionLimit, numbersOf, bytesOf, noRoom, limit, misnamed, numberAt, named, placed, unless, bodyRefusal, bodyStep, over}
 use Rattle.table.proofs.Numbers.{by-order}
 
 -- a body has at most two numbers, and an entry one byte more than its body
@@ -77,6 +77,20 @@ put-all e out one two h first no-first second no-second =
     by-order 1 (numbersOf e)
     (λ l. second l ∙ ap (λ (o : List ℕ). set o 2 (e .b)) (first (omega arith)) ∙ put-two e out h (omega (arith, few (e .kind))))
     (λ l. no-second l ∙ by-order 0 (numbersOf e) (λ k. first k ∙ put-one e out h (omega arith)) (λ k. no-first k ∙ put-none e out h (omega arith)))
+
+-- the refusal where there is no room for a row, or for a question, by each case
+pub row-room-by : (rows questions r : ℕ) → (0 < questions → r ≡ 5) → (questions ≤ 0 → rows < rowLimit → r ≡ 0) → (questions ≤ 0 → rowLimit ≤ rows → r ≡ 6) →
+    r ≡ noRoom true rows questions
+unfolding noRoom
+row-room-by rows questions r five none six =
+    by-order 0 questions
+    (λ h. rw (lt-ltb 0 questions h) (five h))
+    (λ h. rw (le-ltb 0 questions h) (by-order rows rowLimit (λ l. rw (lt-ltb rows rowLimit l) (none h l)) (λ l. rw (le-ltb rows rowLimit l) (six h l))))
+
+pub question-room-by : (rows questions r : ℕ) → (questions < questionLimit → r ≡ 0) → (questionLimit ≤ questions → r ≡ 7) → r ≡ noRoom false rows questions
+unfolding noRoom
+question-room-by rows questions r none seven =
+    by-order questions questionLimit (λ h. rw (lt-ltb questions questionLimit h) (none h)) (λ h. rw (le-ltb questions questionLimit h) (seven h))
 
 -- a step that a refusal's number may stop
 pub unless-none : (n : ℕ) (s : Step) → n ≡ 0 → unless n s ≡ s

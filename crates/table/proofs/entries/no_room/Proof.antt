@@ -1,28 +1,24 @@
 -- That `entries::no_room` (src/entries.rt) keeps its promise.
-use borrow.Author.Tests.{lt-ltb, le-ltb}
-use Rattle.table.specs.Entries.{noRoom}
+use mathlib.Core.Path.{refl}
+use native.Mathlib.Omega.{arith}
+use Rattle.table.proofs.OneEntry.{row-room-by, question-room-by}
 use Rattle.table.proofs.entries.no_room.Statement.{statement}
 use Rattle.table.proofs.entries.no_room.Tie as tie
 
 returns : tie.Need-returns
-unfolding noRoom
-returns c = rw (c .before .if1 .taken) (simp (lt-ltb _ _ (c .if2 .taken)))
+returns c = rw (c .before .if1 .taken) (row-room-by _ _ _ (λ h. refl) (λ h l. absurd (omega arith)) (λ h l. absurd (omega arith)))
 
 returns-2 : tie.Need-returns-2
-unfolding noRoom
-returns-2 c = rw (c .before .before .if1 .taken) (simp (le-ltb _ _ (c .before .if2 .left), lt-ltb _ _ (c .if3 .taken)))
+returns-2 c = rw (c .before .before .if1 .taken) (row-room-by _ _ _ (λ h. absurd (omega arith)) (λ h l. refl) (λ h l. absurd (omega arith)))
 
 returns-3 : tie.Need-returns-3
-unfolding noRoom
-returns-3 c = rw (c .before .before .if1 .taken) (simp (le-ltb _ _ (c .before .if2 .left), le-ltb _ _ (c .if3 .left)))
+returns-3 c = rw (c .before .before .if1 .taken) (row-room-by _ _ _ (λ h. absurd (omega arith)) (λ h l. absurd (omega arith)) (λ h l. refl))
 
 returns-4 : tie.Need-returns-4
-unfolding noRoom
-returns-4 c = rw (c .before .if1 .left) (simp (lt-ltb _ _ (c .if4 .taken)))
+returns-4 c = rw (c .before .if1 .left) (question-room-by _ _ _ (λ h. refl) (λ h. absurd (omega arith)))
 
 returns-5 : tie.Need-returns-5
-unfolding noRoom
-returns-5 c = rw (c .before .if1 .left) (simp (le-ltb _ _ (c .if4 .left)))
+returns-5 c = rw (c .before .if1 .left) (question-room-by _ _ _ (λ h. absurd (omega arith)) (λ h. refl))
 
 pub no-room-spec : {M : Type 1} → statement M
 no-room-spec = tie.close (tie.spec returns returns-2 returns-3 returns-4 returns-5)
