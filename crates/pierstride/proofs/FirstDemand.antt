@@ -1,7 +1,7 @@
 -- The letter's first demand, of the services' answers: every byte string and every number gets an answer or one of 01's numbered refusals, with its number
 -- and place, and a refusal keeps the lent output's bytes.
 -- Assumes nothing.
-use mathlib.Core.Path.{_≡_, refl, sym, ap, _∙_}
+use mathlib.Core.Path.{_≡_, refl, sym, _∙_}
 use mathlib.Core.Bool.{Bool, true, false, cond}
 use mathlib.Core.List.{List}
 use mathlib.Core.Logic.{inl, inr, ⊎-elim}

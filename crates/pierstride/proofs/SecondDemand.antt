@@ -2,7 +2,7 @@
 -- it, and else the first request that does is shown; what striking wrote, given to the services again, brings the old answers under the new numbers.
 -- Assumes nothing.
 use mathlib.Core.Path.{_≡_, refl, sym, ap, _∙_}
-use mathlib.Core.Bool.{Bool, true, false}
+use mathlib.Core.Bool.{true, false}
 use mathlib.Core.List.{List}
 use Prim.Native.Nat.{ℕ, suc, _+_, _-_, _^_, _≤_, _<_}
 use native.Mathlib.Omega.{arith}
@@ -18,7 +18,7 @@ use Rattle.decide.specs.Requests.{Agree}
 use Rattle.decide.proofs.Independence.{independent}
 use Rattle.walk.specs.declared.Reply.the-variants.{Holds, Fails, Unfinished}
 use Rattle.walk.specs.Order.{comesBefore}
-use Rattle.walk.specs.Walk.{Found, nothing, breaking, visits, walk, ended, replyOf}
+use Rattle.walk.specs.Walk.{Found, nothing, breaking, visits, walk, replyOf}
 use Rattle.walk.proofs.Replies.{reply-within, reply-beyond}
 use Rattle.walk.proofs.Answers.{nothing-holds, breaking-first}
 use Rattle.strike.specs.declared.Struck.{Struck}
@@ -29,8 +29,7 @@ use Rattle.strike.proofs.Laws.{struck-rows, struck-questions}
 use Rattle.strike.proofs.Telling.{Done, done-of, struck-read}
 use Rattle.strike.proofs.Keeping.{decides-as-before, possible-as-before, verdict-kept}
 use Rattle.pierstride.specs.declared.Verdict.{Verdict}
-use Rattle.pierstride.specs.Masks.{beyond, badMasks}
-use Rattle.pierstride.specs.Services.{answered, onTable, askedWrongly, unlessWrong, decidedOf, remainingOf, repliedOf, verdictOf, saysStruck}
+use Rattle.pierstride.specs.Services.{answered, decidedOf, repliedOf, saysStruck}
 use Rattle.pierstride.specs.Services.{saysRead, readAnswer, saysDecide, decideAnswer, saysPossible, possibleAnswer, saysVerdict, verdictAnswer, strikeAnswer, strikeOutput}
 use Rattle.pierstride.specs.Demands.{Breaks}
 use Rattle.pierstride.proofs.Answered.{decided, replies}

@@ -22,16 +22,14 @@ use Rattle.possible.specs.Possible.{possible}
 use Rattle.possible.proofs.Masks.{mask-below, member-bit, single-mask}
 use Rattle.possible.proofs.Filling.{filling-member, learning-adds-none, known-exact}
 use Rattle.walk.specs.declared.Reply.{Reply}
-use Rattle.walk.specs.Questions.{truthSet}
 use Rattle.walk.specs.Walk.{Found, visits, walk, replyOf, sees}
 use Rattle.walk.proofs.Bits.{bit-above}
 use Rattle.walk.proofs.Budgets.{more-never-unsays, visits-bound}
 use Rattle.pierstride.specs.declared.Decided.{Decided}
 use Rattle.pierstride.specs.declared.Remaining.{Remaining}
 use Rattle.pierstride.specs.declared.Verdict.{Verdict}
-use Rattle.pierstride.specs.declared.Counts.{Counts}
-use Rattle.pierstride.specs.Masks.{beyond, knownBelow, badMasks}
-use Rattle.pierstride.specs.Services.{answered, onTable, askedWrongly, unlessWrong, countsOf, repliedOf, verdictOf}
+use Rattle.pierstride.specs.Masks.{beyond, knownBelow}
+use Rattle.pierstride.specs.Services.{onTable, askedWrongly, unlessWrong, repliedOf, verdictOf}
 use Rattle.pierstride.specs.Services.{saysRead, readAnswer, decideAnswer, saysPossible, possibleAnswer, saysVerdict, verdictAnswer}
 use Rattle.pierstride.specs.Demands.{needed}
 use Rattle.pierstride.proofs.Answered.{table-of, decided, decides, remained, replies}

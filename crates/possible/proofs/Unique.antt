@@ -1,7 +1,7 @@
 -- Each public call's promise leaves one answer, and one content for the output (belnap/specs/One.antt).
 -- Stated of the promises themselves, so that one that says less is refused here.
 -- Assumes nothing.
-use mathlib.Core.Path.{_≡_, refl}
+use mathlib.Core.Path.{refl}
 use Rattle.belnap.specs.One.{One, OneOutput}
 use Rattle.belnap.proofs.Unique.{by-definition}
 use Rattle.possible.proofs.sets.digit.Reads as digit

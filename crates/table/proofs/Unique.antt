@@ -1,7 +1,7 @@
 -- Each public call's promise leaves one answer, one content for the output, and one place for a returned part (belnap/specs/One.antt).
 -- Stated of the promises themselves, so that one that says less is refused here.
 -- Assumes nothing.
-use mathlib.Core.Path.{_≡_, ap₂, sym, _∙_}
+use mathlib.Core.Path.{ap₂, sym, _∙_}
 use Prim.Native.Nat.{ℕ}
 use Rattle.belnap.specs.One.{One, OneOutput, OnePart}
 use Rattle.belnap.proofs.Unique.{by-definition}

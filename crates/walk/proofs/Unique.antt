@@ -1,7 +1,6 @@
 -- Each public call's promise leaves one answer (belnap/specs/One.antt).
 -- Stated of the promises themselves, so that one that says less is refused here.
 -- Assumes nothing.
-use mathlib.Core.Path.{_≡_}
 use Rattle.belnap.specs.One.{One}
 use Rattle.belnap.proofs.Unique.{by-definition}
 use Rattle.walk.proofs.verdict.Reads as verdict
