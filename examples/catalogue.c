@@ -11,15 +11,26 @@ enum { MOST_BYTES = 961 };
 
 static const uint32_t BUDGET = 1000000;
 
-static const char *const DECISIONS[] = {"unspecified", "deny", "grant", "conflict"};
+static const char *const DECISIONS[] = {
+    [PIER_UNSPECIFIED] = "unspecified",
+    [PIER_DENY] = "deny",
+    [PIER_GRANT] = "grant",
+    [PIER_CONFLICT] = "conflict",
+};
+
+static const char *const REPLIES[] = {
+    [PIER_HOLDS] = "holds",
+    [PIER_FAILS] = "fails",
+    [PIER_UNFINISHED] = "unfinished",
+};
 
 /* Prints a refusal, if there is one, and says whether there is. */
 static int refused(uint32_t refusal, size_t place)
 {
-    if (refusal != 0) {
+    if (refusal != PIER_NO_REFUSAL) {
         printf("refused %lu at %lu\n", (unsigned long)refusal, (unsigned long)place);
     }
-    return refusal != 0;
+    return refusal != PIER_NO_REFUSAL;
 }
 
 static void print_bytes(const uint8_t *bytes, size_t length)
@@ -50,7 +61,7 @@ static void show_possible(const uint8_t *table, size_t length, uint32_t row, uin
     }
     printf("row %lu, known mask %lu, yes mask %lu:", (unsigned long)row, (unsigned long)known,
            (unsigned long)yes);
-    for (code = 0; code < 4; code++) {
+    for (code = PIER_UNSPECIFIED; code <= PIER_CONFLICT; code++) {
         if ((possible.set >> code & 1) != 0) {
             printf(" %s", DECISIONS[code]);
         }
@@ -69,13 +80,12 @@ static void show_entry(const uint8_t *table, size_t length, uint32_t row)
 
 static void ask(const uint8_t *table, size_t length, uint32_t question)
 {
-    static const char *const REPLIES[] = {"", "holds", "fails", "unfinished"};
     pier_verdict_reply verdict = pier_verdict(table, length, question, BUDGET);
     if (refused(verdict.refusal, verdict.place)) {
         return;
     }
     printf("question %lu %s", (unsigned long)question, REPLIES[verdict.reply]);
-    if (verdict.reply == 2) {
+    if (verdict.reply == PIER_FAILS) {
         printf(" at yes mask %lu", (unsigned long)verdict.request);
     }
     printf(" after %lu visits\n", (unsigned long)verdict.visits);

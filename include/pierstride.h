@@ -2,41 +2,19 @@
  * Pierstride: rule tables over four decisions.
  *
  * A table is a byte string: a run of rows, then a run of questions about them.
- * Each call takes the whole table and reads it first. Every byte string and
- * every number brings an answer or a numbered refusal, so the caller need check
- * nothing beforehand.
+ * Each call takes the whole table and reads it first. Nothing is kept between
+ * calls.
  *
- * Slices. A slice is a pointer and a length. The pointer must be good for that
- * many bytes and is never null, not even for an empty slice. The caller owns
- * every slice; the library reads or writes it during the call only and neither
- * keeps nor frees it. The slices of one call must not overlap.
- *
- * Refusals. In each reply `refusal` is the number of the refusal, or 0 if there
- * is none, and `place` is its place. Every field that says nothing in a case is
- * 0. A refusal changes no byte of any slice. Refusals 1 to 7 speak of the first
- * bad entry of the table, and their place is that of its kind byte; the others
- * speak of what was asked, and their place is 0.
- *
- *    1  the kind is not listed
- *    2  the body is cut short
- *    3  a predicate is above 23
- *    4  a number may not be named there
- *    5  a row comes after a question
- *    6  there is a 257th row
- *    7  there is a 65th question
- *    8  the row or question asked for is not there
- *    9  the row to strike is named by a row or question
- *   10  a mask has a bit above 23, or a yes that is not known
- *   11  the output is shorter than the bytes to write
- *
- * If one entry gives cause for several of 1 to 7, the first of 1, 5, 6, 7, 2, 3,
- * 4 is given.
- *
- * Threads. The library keeps no state: nothing is kept between calls, and any
- * thread may make any call at any time, as long as no other thread writes to its
- * slices meanwhile.
- *
- * Stack. A call needs less than 32 KiB of it.
+ * What the caller need check. Of bytes and numbers, nothing: every byte string
+ * and every number brings an answer or a numbered refusal. Of memory, what no
+ * library can check for a C program. A slice is a pointer and a length, and
+ *  - the pointer is good for that many bytes, an output's also for writing;
+ *  - the pointer is not null, not even where the length is 0;
+ *  - the slices of one call do not overlap;
+ *  - no other thread writes to a slice during the call, or reads an output.
+ * If this is not kept, nothing is promised. The caller owns every slice: the
+ * library uses it during the call only and neither keeps nor frees it. Any
+ * thread may make any call at any time.
  *
  * Masks. Predicate i is bit i of a mask, i from 0 to 23.
  */
@@ -50,57 +28,104 @@
 extern "C" {
 #endif
 
-/* The reply of pier_read. */
+/*
+ * The refusals, in the order in which they are looked for. The first seven are
+ * those of reading, which every call may give: they are looked for entry by
+ * entry from the front, and the place is that of the kind byte of the first bad
+ * entry. The others speak of what was asked, and their place is 0. A refusal
+ * changes no byte of any slice.
+ */
+enum {
+    PIER_NO_REFUSAL = 0,
+    PIER_KIND_NOT_LISTED = 1,    /* the kind is not listed */
+    PIER_ROW_AFTER_QUESTION = 5, /* a row comes after a question */
+    PIER_TOO_MANY_ROWS = 6,      /* there is a 257th row */
+    PIER_TOO_MANY_QUESTIONS = 7, /* there is a 65th question */
+    PIER_BODY_CUT_SHORT = 2,     /* the body is cut short */
+    PIER_PREDICATE_ABOVE_23 = 3, /* a predicate is above 23 */
+    PIER_MAY_NOT_BE_NAMED = 4,   /* a number may not be named there */
+    PIER_NOT_THERE = 8,          /* the row or question asked for is not there */
+    PIER_ROW_IS_NAMED = 9,       /* the row to strike is named by a row or question */
+    PIER_BAD_MASK = 10,          /* a mask has a bit above 23, or a yes that is not known */
+    PIER_OUTPUT_TOO_SHORT = 11   /* the output is shorter than the bytes to write */
+};
+
+/* The decisions. */
+enum {
+    PIER_UNSPECIFIED = 0, /* neither grants nor denies */
+    PIER_DENY = 1,        /* only denies */
+    PIER_GRANT = 2,       /* only grants */
+    PIER_CONFLICT = 3     /* grants and denies */
+};
+
+/* The replies to a question. */
+enum {
+    PIER_HOLDS = 1,     /* it is true at every request */
+    PIER_FAILS = 2,     /* it is false at some request */
+    PIER_UNFINISHED = 3 /* the walk makes more visits than the budget */
+};
+
+/* No call needs more than this many bytes of stack. */
+enum { PIER_STACK_BYTES = 32 * 1024 };
+
+/*
+ * Every answer begins with the refusal and its place, PIER_NO_REFUSAL and 0 if
+ * there is none. Every field that says nothing in a case is 0: look at `refusal`
+ * first, as a `code` of 0 is also PIER_UNSPECIFIED.
+ */
+
+/* What pier_read answers. */
 typedef struct {
-    size_t place;
     uint32_t refusal;
+    size_t place;
     uint32_t rows;       /* the number of rows */
     uint32_t questions;  /* the number of questions */
     uint32_t predicates; /* one more than the highest predicate used, or 0 */
 } pier_counts;
 
-/* The reply of pier_decide. */
+/* What pier_decide answers. */
 typedef struct {
-    size_t place;
     uint32_t refusal;
-    uint32_t code; /* unspecified 0, deny 1, grant 2, conflict 3 */
+    size_t place;
+    uint32_t code; /* the decision */
 } pier_decided;
 
-/* The reply of pier_possible. */
+/* What pier_possible answers. */
 typedef struct {
-    size_t place;
     uint32_t refusal;
-    uint32_t set; /* a sum: unspecified 1, deny 2, grant 4, conflict 8 */
+    size_t place;
+    uint32_t set; /* u counts 1, d 2, g 4, c 8: bit v is set if decision v is a member,
+                     as `set >> PIER_DENY & 1` */
 } pier_set;
 
-/* The reply of pier_verdict. */
+/* What pier_verdict answers. */
 typedef struct {
-    size_t place;
     uint32_t refusal;
-    uint32_t reply;   /* holds 1, fails 2, unfinished 3; 0 on a refusal */
-    uint32_t request; /* fails: the first breaking request, as a yes mask */
-    uint32_t visits;  /* the count of visits; unfinished: the budget */
+    size_t place;
+    uint32_t reply;
+    uint32_t request; /* PIER_FAILS: the first request that breaks it, as a yes mask */
+    uint32_t visits;  /* the count of visits; PIER_UNFINISHED: the budget */
 } pier_verdict_reply;
 
-/* The reply of pier_strike. */
+/* What pier_strike answers. */
 typedef struct {
+    uint32_t refusal;
     size_t place;
     size_t length; /* how many bytes were written */
-    uint32_t refusal;
 } pier_struck;
 
-/* The reply of pier_entry. */
+/* What pier_entry answers. */
 typedef struct {
+    uint32_t refusal;
     size_t place;
     size_t start;  /* where in the table the entry starts */
     size_t length; /* how many bytes it has */
-    uint32_t refusal;
 } pier_part;
 
 /*
  * Reads a table and answers how many rows, questions and predicates it has.
  *
- * Refusals: 1 to 7.
+ * Refusals: those of reading.
  */
 pier_counts pier_read(const uint8_t *table, size_t table_len);
 
@@ -108,19 +133,19 @@ pier_counts pier_read(const uint8_t *table, size_t table_len);
  * Answers what a row decides at the request whose yes mask is given, every
  * predicate being known.
  *
- * Refusals, in this order: 1 to 7; 8 if there is no such row; 10 if `yes` has a
- * bit above 23.
+ * Refusals: those of reading; PIER_NOT_THERE; PIER_BAD_MASK.
  */
 pier_decided pier_decide(const uint8_t *table, size_t table_len, uint32_t row, uint32_t yes);
 
 /*
  * Answers which decisions of a row remain possible if only the predicates of
  * `known` are known, those of `yes` being yes and the others no. The set has the
- * decision under every way of filling in the unknown facts; with nothing unknown
- * it has only what pier_decide answers.
+ * decision under every way of filling in the unknown facts. It may also have
+ * decisions that no filling brings, since an operator's operands are chosen
+ * independently, also where both are the same row. Learning a fact adds none,
+ * and with nothing unknown the set has only what pier_decide answers.
  *
- * Refusals, in this order: 1 to 7; 8 if there is no such row; 10 if a mask has a
- * bit above 23 or `yes` has a bit that `known` has not.
+ * Refusals: those of reading; PIER_NOT_THERE; PIER_BAD_MASK.
  */
 pier_set pier_possible(const uint8_t *table, size_t table_len, uint32_t row, uint32_t known,
                        uint32_t yes);
@@ -129,11 +154,11 @@ pier_set pier_possible(const uint8_t *table, size_t table_len, uint32_t row, uin
  * Answers whether a question is true at every request and, if not, which request
  * is the first at which it is false; in the order of requests predicate 0 weighs
  * most, and no comes before yes. The walk that finds this out may make `budget`
- * visits; the reply is "unfinished" exactly if it needs more. For n predicates
+ * visits; the reply is PIER_UNFINISHED exactly if it needs more. For n predicates
  * 2^(n+1) - 1 visits are always enough, and every budget that is enough brings
  * the same reply.
  *
- * Refusals, in this order: 1 to 7; 8 if there is no such question.
+ * Refusals: those of reading; PIER_NOT_THERE.
  */
 pier_verdict_reply pier_verdict(const uint8_t *table, size_t table_len, uint32_t question,
                                 uint32_t budget);
@@ -144,8 +169,8 @@ pier_verdict_reply pier_verdict(const uint8_t *table, size_t table_len, uint32_t
  * other row decides as before under its new number. The bytes of `out` behind
  * those written keep what they had. `table_len` bytes are always enough.
  *
- * Refusals, in this order: 1 to 7; 8 if there is no such row; 9 if a row or a
- * question names it; 11 if `out` is shorter than the bytes to write.
+ * Refusals: those of reading; PIER_NOT_THERE; PIER_ROW_IS_NAMED;
+ * PIER_OUTPUT_TOO_SHORT.
  */
 pier_struck pier_strike(const uint8_t *table, size_t table_len, uint32_t row, uint8_t *out,
                         size_t out_len);
@@ -154,7 +179,7 @@ pier_struck pier_strike(const uint8_t *table, size_t table_len, uint32_t row, ui
  * Answers where in the table the bytes of a row lie, from its kind byte on. On a
  * refusal the part is empty.
  *
- * Refusals, in this order: 1 to 7; 8 if there is no such row.
+ * Refusals: those of reading; PIER_NOT_THERE.
  */
 pier_part pier_entry(const uint8_t *table, size_t table_len, uint32_t row);
 

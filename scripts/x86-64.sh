@@ -11,11 +11,11 @@ give_up() {
     exit 1
 }
 
-# get PACKAGE..: Debian packages, as root.
+# get PACKAGE..: Debian packages, as root. What this prints is no script's output.
 get() {
     apt-get update
     apt-get install -y --no-install-recommends "$@"
-}
+} >&2
 
 root=$(cd "$(dirname "${BASH_SOURCE[0]}")/.." && pwd)
 library=$root/target/staticlib

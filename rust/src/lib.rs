@@ -7,7 +7,9 @@
 //!
 //! The functions call the static library `libpierstride.a`, which the build
 //! looks for in the directory that the environment variable `PIERSTRIDE_LIB`
-//! names, or else in the repository's `target/staticlib`. They do not panic.
+//! names, or else in the repository's `target/staticlib`. They panic only if the
+//! library broke its promise: a decision or a reply that has no name here, or an
+//! entry outside the table.
 //!
 //! ```
 //! use pierstride::{decide, possible, verdict, Decision, Verdict};
@@ -110,7 +112,8 @@ impl Decision {
             0 => Decision::Unspecified,
             1 => Decision::Deny,
             2 => Decision::Grant,
-            _ => Decision::Conflict,
+            3 => Decision::Conflict,
+            _ => unreachable!("the library answered a decision with code {code}"),
         }
     }
 
@@ -198,8 +201,9 @@ pub fn decide(table: &[u8], row: u32, yes: u32) -> Result<Decision, Refusal> {
 ///
 /// The set has the decision under every way of filling in the unknown facts.
 /// Learning a fact adds no decision to it, and with nothing unknown it has only
-/// what [`decide`] answers. Operands are chosen independently, so it may also
-/// have decisions that no filling brings.
+/// what [`decide`] answers. It may also have decisions that no filling brings,
+/// since an operator's operands are chosen independently, also where both are
+/// the same row.
 ///
 /// # Errors
 ///
@@ -232,7 +236,8 @@ pub fn verdict(table: &[u8], question: u32, budget: u32) -> Result<Verdict, Refu
     Ok(match reply.reply {
         1 => Verdict::Holds { visits },
         2 => Verdict::Fails { request, visits },
-        _ => Verdict::Unfinished { budget: visits },
+        3 => Verdict::Unfinished { budget: visits },
+        unknown => unreachable!("the library answered a question with reply {unknown}"),
     })
 }
 
@@ -265,11 +270,14 @@ pub fn strike(table: &[u8], row: u32, out: &mut [u8]) -> Result<usize, Refusal> 
 ///
 /// In this order: refusals 1 to 7, for the first bad entry of the table; 8, if
 /// there is no such row.
+///
+/// # Panics
+///
+/// If the part that the library answers is not within the table. The library
+/// promises that it is, so nothing here makes up for it.
 pub fn entry(table: &[u8], row: u32) -> Result<&[u8], Refusal> {
     // SAFETY: the pointer and the length are those of a slice.
     let reply = unsafe { raw::pier_entry(table.as_ptr(), table.len(), row) };
     accepted(reply.refusal, reply.place)?;
-    // The library promises that the part lies within the table.
-    let part = table.get(reply.start..).and_then(|rest| rest.get(..reply.length));
-    Ok(part.unwrap_or_default())
+    Ok(&table[reply.start..][..reply.length])
 }

@@ -1,8 +1,9 @@
 //! The C functions as the static library exports them; see `pierstride.h`.
 //!
 //! A slice is a pointer, which is not null even if the slice is empty, and a
-//! length. `refusal` is the number of the refusal and 0 if there is none;
-//! `place` is its place. Every field that says nothing in a case is 0.
+//! length. Every reply begins with `refusal`, the number of the refusal and 0 if
+//! there is none, and `place`, its place. Every field that says nothing in a case
+//! is 0.
 //!
 //! Each function is unsafe to call for one reason: every pointer must be good
 //! for as many bytes as the length beside it says, an output for writing and
@@ -12,8 +13,8 @@
 #[repr(C)]
 #[derive(Clone, Copy, Debug)]
 pub struct PierCounts {
-    pub place: usize,
     pub refusal: u32,
+    pub place: usize,
     pub rows: u32,
     pub questions: u32,
     pub predicates: u32,
@@ -23,8 +24,8 @@ pub struct PierCounts {
 #[repr(C)]
 #[derive(Clone, Copy, Debug)]
 pub struct PierDecided {
-    pub place: usize,
     pub refusal: u32,
+    pub place: usize,
     pub code: u32,
 }
 
@@ -32,8 +33,8 @@ pub struct PierDecided {
 #[repr(C)]
 #[derive(Clone, Copy, Debug)]
 pub struct PierSet {
-    pub place: usize,
     pub refusal: u32,
+    pub place: usize,
     pub set: u32,
 }
 
@@ -42,8 +43,8 @@ pub struct PierSet {
 #[repr(C)]
 #[derive(Clone, Copy, Debug)]
 pub struct PierVerdictReply {
-    pub place: usize,
     pub refusal: u32,
+    pub place: usize,
     pub reply: u32,
     pub request: u32,
     pub visits: u32,
@@ -53,54 +54,63 @@ pub struct PierVerdictReply {
 #[repr(C)]
 #[derive(Clone, Copy, Debug)]
 pub struct PierStruck {
+    pub refusal: u32,
     pub place: usize,
     pub length: usize,
-    pub refusal: u32,
 }
 
 /// The reply of [`pier_entry`].
 #[repr(C)]
 #[derive(Clone, Copy, Debug)]
 pub struct PierPart {
+    pub refusal: u32,
     pub place: usize,
     pub start: usize,
     pub length: usize,
-    pub refusal: u32,
 }
 
-/// Declares functions whose result is larger than 16 bytes.
+/// Declares the C functions. Each result is larger than 16 bytes.
 ///
-/// On x86-64 they are plain C functions. In the library's native object for Arm
+/// On x86-64 they are declared as they are. In the library's native object for Arm
 /// they take a pointer to the result as their first argument instead, and return
 /// nothing; there each becomes a function of the same name that hides this.
-macro_rules! with_large_result {
-    ($($(#[$doc:meta])* fn $name:ident($($argument:ident: $type:ty),*) -> $result:ty;)*) => {$(
+macro_rules! c_functions {
+    ($($(#[$doc:meta])* fn $name:ident($($argument:ident: $type:ty),*) -> $result:ty;)*) => {
         #[cfg(not(target_arch = "aarch64"))]
         extern "C" {
-            $(#[$doc])*
-            pub fn $name($($argument: $type),*) -> $result;
+            $($(#[$doc])* pub fn $name($($argument: $type),*) -> $result;)*
         }
 
-        $(#[$doc])*
-        ///
-        /// # Safety
-        ///
-        /// Every pointer must be good for the length beside it.
-        #[cfg(target_arch = "aarch64")]
-        pub unsafe fn $name($($argument: $type),*) -> $result {
-            extern "C" {
-                fn $name(result: *mut $result, $($argument: $type),*);
+        $(
+            $(#[$doc])*
+            ///
+            /// # Safety
+            ///
+            /// Every pointer must be good for the length beside it.
+            #[cfg(target_arch = "aarch64")]
+            pub unsafe fn $name($($argument: $type),*) -> $result {
+                extern "C" {
+                    fn $name(result: *mut $result, $($argument: $type),*);
+                }
+                let mut result = std::mem::MaybeUninit::uninit();
+                $name(result.as_mut_ptr(), $($argument),*);
+                result.assume_init()
             }
-            let mut result = std::mem::MaybeUninit::uninit();
-            $name(result.as_mut_ptr(), $($argument),*);
-            result.assume_init()
-        }
-    )*};
+        )*
+    };
 }
 
-with_large_result! {
+c_functions! {
     /// The C function behind [`read`](crate::read).
     fn pier_read(table: *const u8, table_len: usize) -> PierCounts;
+
+    /// The C function behind [`decide`](crate::decide).
+    fn pier_decide(table: *const u8, table_len: usize, row: u32, yes: u32) -> PierDecided;
+
+    /// The C function behind [`possible`](crate::possible).
+    fn pier_possible(
+        table: *const u8, table_len: usize, row: u32, known: u32, yes: u32
+    ) -> PierSet;
 
     /// The C function behind [`verdict`](crate::verdict).
     fn pier_verdict(
@@ -114,18 +124,4 @@ with_large_result! {
 
     /// The C function behind [`entry`](crate::entry).
     fn pier_entry(table: *const u8, table_len: usize, row: u32) -> PierPart;
-}
-
-extern "C" {
-    /// The C function behind [`decide`](crate::decide).
-    pub fn pier_decide(table: *const u8, table_len: usize, row: u32, yes: u32) -> PierDecided;
-
-    /// The C function behind [`possible`](crate::possible).
-    pub fn pier_possible(
-        table: *const u8,
-        table_len: usize,
-        row: u32,
-        known: u32,
-        yes: u32,
-    ) -> PierSet;
 }

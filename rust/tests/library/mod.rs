@@ -79,6 +79,9 @@ pub fn fields(table: &[u8], call: Call) -> Fields {
             }
             Call::Entry { row } => {
                 let reply = raw::pier_entry(bytes, length, row);
+                let end = reply.start.checked_add(reply.length);
+                let within = end.map_or(false, |end| end <= length);
+                assert!(within, "row {row} is not within {table:02x?}: {reply:?}");
                 (reply.refusal, reply.place, vec![reply.start, reply.length])
             }
         }

@@ -1,0 +1,215 @@
+/*
+ * Measures how much stack each call uses, on tables that ask much of it, and
+ * fails if one uses more than PIER_STACK_BYTES.
+ *
+ * The calls run on a stack of their own, which is painted with one byte before
+ * each: the lowest byte that is another afterwards shows how deep the call went.
+ * What make_call itself uses is counted too, about 200 bytes.
+ */
+#define _XOPEN_SOURCE 700
+
+#include <stdio.h>
+#include <stdlib.h>
+#include <string.h>
+#include <ucontext.h>
+
+#include "pierstride.h"
+
+enum { PAINT = 0xA5, MOST_BYTES = 1024, LAST_ROW = 255, LAST_QUESTION = 63 };
+
+/* Enough visits to come to the walk's depth, and many more. */
+enum { VISITS = 1000, MANY_VISITS = 100000 };
+
+typedef struct {
+    uint8_t bytes[MOST_BYTES];
+    size_t length;
+} table;
+
+typedef enum { READ, DECIDE, POSSIBLE, VERDICT, STRIKE, ENTRY, SERVICES } service;
+
+static const char *const NAMES[SERVICES] = {"pier_read",    "pier_decide", "pier_possible",
+                                            "pier_verdict", "pier_strike", "pier_entry"};
+
+/* The call to make, and the refusal that it brought. */
+static struct {
+    service service;
+    const table *table;
+    uint32_t number, first, second; /* a row or question; masks, or a budget */
+    size_t room;                    /* of the output */
+    uint32_t refusal;
+} call;
+
+static uint8_t stack[4 * PIER_STACK_BYTES];
+static const uint8_t *top;
+static ucontext_t here, there;
+static size_t most[SERVICES];
+
+static void make_call(void)
+{
+    static uint8_t out[MOST_BYTES];
+    const uint8_t *bytes = call.table->bytes;
+    size_t length = call.table->length;
+    top = __builtin_frame_address(0);
+    switch (call.service) {
+    case READ:
+        call.refusal = pier_read(bytes, length).refusal;
+        break;
+    case DECIDE:
+        call.refusal = pier_decide(bytes, length, call.number, call.first).refusal;
+        break;
+    case POSSIBLE:
+        call.refusal = pier_possible(bytes, length, call.number, call.first, call.second).refusal;
+        break;
+    case VERDICT:
+        call.refusal = pier_verdict(bytes, length, call.number, call.first).refusal;
+        break;
+    case STRIKE:
+        call.refusal = pier_strike(bytes, length, call.number, out, call.room).refusal;
+        break;
+    default:
+        call.refusal = pier_entry(bytes, length, call.number).refusal;
+    }
+}
+
+/* Makes the call on the painted stack, counts what it used, and answers its refusal. */
+static uint32_t measure(service service, const table *table, uint32_t number, uint32_t first,
+                        uint32_t second, size_t room)
+{
+    const uint8_t *lowest = stack;
+    call.service = service;
+    call.table = table;
+    call.number = number;
+    call.first = first;
+    call.second = second;
+    call.room = room;
+    memset(stack, PAINT, sizeof stack);
+    getcontext(&there);
+    there.uc_stack.ss_sp = stack;
+    there.uc_stack.ss_size = sizeof stack;
+    there.uc_link = &here;
+    makecontext(&there, make_call, 0);
+    swapcontext(&here, &there);
+    while (*lowest == PAINT) {
+        lowest++;
+    }
+    if (most[service] < (size_t)(top - lowest)) {
+        most[service] = (size_t)(top - lowest);
+    }
+    return call.refusal;
+}
+
+static void add(table *table, unsigned kind, unsigned first, unsigned second)
+{
+    table->bytes[table->length++] = (uint8_t)kind;
+    table->bytes[table->length++] = (uint8_t)first;
+    table->bytes[table->length++] = (uint8_t)second;
+}
+
+/*
+ * The longest table, 959 bytes: row 0 grants if predicate 23, and every other
+ * entry stays open until row 0 is known, so the walk goes 25 visits deep. Each
+ * entry names the one before it; the questions begin at row `asked`.
+ */
+static table longest(unsigned asked)
+{
+    static const uint8_t kinds[] = {0x30, 0x31, 0x32, 0x33, 0x35, 0x38, 0x39, 0x3A, 0x3B};
+    table table = {{0x11, 23}, 2};
+    unsigned i;
+    for (i = 1; i <= LAST_ROW; i++) {
+        add(&table, kinds[i % sizeof kinds], i - 1, i - 1);
+    }
+    add(&table, 0x40, asked, asked);
+    for (i = 1; i <= LAST_QUESTION; i++) {
+        add(&table, 0x43, i - 1, i - 1);
+    }
+    return table;
+}
+
+/* The longest table cut to a length, with a kind put at a place. */
+static table damaged(size_t length, size_t place, unsigned kind)
+{
+    table table = longest(LAST_ROW);
+    add(&table, 0, 0, 0);
+    table.bytes[place] = (uint8_t)kind;
+    table.length = length;
+    return table;
+}
+
+/* Makes every call on a table, with numbers that are there and numbers that are not. */
+static void measure_all(const table *table)
+{
+    static const uint32_t numbers[] = {0, 1, LAST_QUESTION, LAST_ROW, 256, UINT32_MAX};
+    static const uint32_t masks[] = {0, 0x555555, 0xFFFFFF, UINT32_MAX};
+    size_t i, j, k;
+    measure(READ, table, 0, 0, 0, 0);
+    for (i = 0; i < sizeof numbers / sizeof *numbers; i++) {
+        for (j = 0; j < sizeof masks / sizeof *masks; j++) {
+            measure(DECIDE, table, numbers[i], masks[j], 0, 0);
+            for (k = 0; k < sizeof masks / sizeof *masks; k++) {
+                measure(POSSIBLE, table, numbers[i], masks[j], masks[k], 0);
+            }
+        }
+        measure(VERDICT, table, numbers[i], 0, 0, 0);
+        measure(VERDICT, table, numbers[i], VISITS, 0, 0);
+        measure(STRIKE, table, numbers[i], 0, 0, 0);
+        measure(STRIKE, table, numbers[i], 0, 0, MOST_BYTES);
+        measure(ENTRY, table, numbers[i], 0, 0, 0);
+    }
+}
+
+/* Ends the program if the tables are not what they are meant to be. */
+static void require(int kept, const char *what)
+{
+    if (!kept) {
+        printf("not so: %s\n", what);
+        exit(2);
+    }
+}
+
+int main(void)
+{
+    const table open = longest(LAST_ROW), free_row = longest(LAST_ROW - 1), empty = {{0}, 0};
+    const struct {
+        uint32_t refusal;
+        table table;
+    } refused[] = {
+        {PIER_KIND_NOT_LISTED, damaged(959, 956, 0x12)},
+        {PIER_ROW_AFTER_QUESTION, damaged(962, 959, 0x30)},
+        {PIER_TOO_MANY_ROWS, damaged(959, 767, 0x30)},
+        {PIER_TOO_MANY_QUESTIONS, damaged(962, 959, 0x40)},
+        {PIER_BODY_CUT_SHORT, damaged(958, 956, 0x43)},
+        {PIER_PREDICATE_ABOVE_23, damaged(959, 764, 0x11)},
+        {PIER_MAY_NOT_BE_NAMED, damaged(959, 958, LAST_QUESTION)},
+    };
+    /* Made here first, so that linking memcpy and memset at their first use is not counted. */
+    pier_counts counts = pier_read(open.bytes, open.length);
+    pier_verdict_reply verdict = pier_verdict(open.bytes, open.length, LAST_QUESTION, VISITS);
+    int status = 0;
+    size_t i;
+
+    require(open.length == 959 && counts.rows == 256 && counts.questions == 64 &&
+                counts.predicates == 24,
+            "the longest table is accepted");
+    require(verdict.reply == PIER_UNFINISHED, "its last question stays open");
+    require(measure(STRIKE, &free_row, LAST_ROW, 0, 0, MOST_BYTES) == PIER_NO_REFUSAL,
+            "a row is struck from a full table");
+
+    measure(VERDICT, &open, LAST_QUESTION, MANY_VISITS, 0, 0);
+    measure_all(&open);
+    measure_all(&free_row);
+    measure_all(&empty);
+    for (i = 0; i < sizeof refused / sizeof *refused; i++) {
+        require(measure(READ, &refused[i].table, 0, 0, 0, 0) == refused[i].refusal,
+                "a table is refused as it should be");
+        measure_all(&refused[i].table);
+    }
+
+    for (i = 0; i < SERVICES; i++) {
+        printf("%s: %lu bytes of stack\n", NAMES[i], (unsigned long)most[i]);
+        if (most[i] > PIER_STACK_BYTES) {
+            printf("that is more than %d\n", (int)PIER_STACK_BYTES);
+            status = 1;
+        }
+    }
+    return status;
+}
