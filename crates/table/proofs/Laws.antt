@@ -20,7 +20,7 @@ use Rattle.table.specs.declared.kinds.Names.the-variants.{Nothing, Predi
 use Rattle.table.specs.declared.entries.Step.{Step}
 use Rattle.table.specs.declared.entries.Step.the-variants.{Row, Question, Bad}
 use Rattle.table.specs.Kinds.{kindOf, formOf}
-use Rattle.table.specs.Entries.{predicateLimit, rowLimit, questionLimit, blank, bytesOf, uses, usedBy, isRow, noRoom, limit, misnamed, numberAt, named, placed, unless, bodyRefusal, bodyStep, stepBy, stepOf}
+use Rattle.table.specs.Entries.{predicateLimit, rowLimit, questionLimit, blank, bytesOf, uses, usedBy, isRow, noRoom, limit, misnamed, numberAt, named, placed, bodyStep, unless, stepBy, stepOf}
 use Rattle.table.specs.Reading.{Contents, none, accepted, refused, after, readOn, reading, ofReading, isAmong, predicates, written}
 use Rattle.table.proofs.OneEntry.{few, length-bytes, body-cut}
 use Rattle.table.proofs.Writing.{entries, Sound, Each, each-get, Stopped, of-accepted, of-refused, read-past, whole-accepted}
@@ -152,20 +152,20 @@ body-numbered kind body rows questions =
     let b = numberAt (form .numbers) 1 body in
     cut (ltb (length body) (form .numbers)) (named (form .numbers) (limit (form .names) rows questions) a b) (record { kind = kind; a = a; b = b })
   where
-    misnamed-numbered : (names : Names) (e : Entry) → numbered (unless (misnamed names) (placed e)) ≡ true
-    misnamed-numbered Nothing e = refl
-    misnamed-numbered Predicates e = refl
-    misnamed-numbered Rows e = refl
-    misnamed-numbered Questions e = refl
+    misnamed-numbered : (names : Names) → isAmong ofReading (misnamed names) ≡ true
+    misnamed-numbered Nothing = refl
+    misnamed-numbered Predicates = refl
+    misnamed-numbered Rows = refl
+    misnamed-numbered Questions = refl
 
     placed-numbered : (row : Bool) (e : Entry) → numbered (cond row (Row e) (Question e)) ≡ true
     placed-numbered true e = refl
     placed-numbered false e = refl
 
-    cut : (a b : Bool) (e : Entry) → numbered (unless (bodyRefusal a b (formOf kind .names)) (placed e)) ≡ true
+    cut : (a b : Bool) (e : Entry) → numbered (cond a (Bad 2) (cond b (placed e) (Bad (misnamed (formOf kind .names))))) ≡ true
     cut true b e = refl
     cut false true e = placed-numbered (isRow e) e
-    cut false false e = misnamed-numbered (formOf kind .names) e
+    cut false false e = misnamed-numbered (formOf kind .names)
 
 step-numbered : (k : ℕ) (body : List ℕ) (rows questions : ℕ) → numbered (stepOf k body rows questions) ≡ true
 unfolding stepOf stepBy

@@ -1,22 +1,19 @@
 -- Laws of one entry: its size, its bytes in an output, and what a step says of the bytes.
 -- Assumes nothing.
-use mathlib.Core.Path.{_≡_, refl, sym, ap, _∙_}
+use mathlib.Core.Path.{_≡_, refl, ap, _∙_}
 use mathlib.Core.Bool.{Bool, true, false}
 use mathlib.Core.List.{List, [], _∷_, _++_}
 use Prim.Native.Nat.{ℕ, zero, suc, _+_, _-_, _≤_, _<_}
 use native.Mathlib.Omega.{arith}
-use lib.ListN.{length, take, drop, set, length-drop}
-use lib.Dec.{ltb, leb}
+use lib.ListN.{length, take, drop, set}
 use borrow.Author.Tests.{lt-ltb, le-ltb, le-leb, lt-leb}
 use Rattle.table.specs.declared.kinds.Kind.{Kind}
 use Rattle.table.specs.declared.kinds.Kind.the-variants.{Always, DenyIf, GrantIf, One, Two, Compare, Not, Both}
-use Rattle.table.specs.declared.kinds.Names.{Names}
-use Rattle.table.specs.declared.kinds.Names.the-variants.{Nothing, Predicates, Rows, Questions}
 use Rattle.table.specs.declared.entries.Entry.{Entry}
 use Rattle.table.specs.declared.entries.Step.{Step}
 use Rattle.table.specs.declared.entries.Step.the-variants.{Bad}
 use Rattle.table.specs.Kinds.{byteOf, formOf}
-use Rattle.table.specs.Entries.{rowLimit, questionLimit, numbersOf, bytesOf, noRoom, limit, misnamed, numberAt, named, placed, unless, bodyRefusal, bodyStep, over}
+use Rattle.table.specs.Entries.{rowLimit, questionLimit, numbersOf, bytesOf, noRoom, limit, misnamed, numberAt, named, placed, bodyStep, unless, over}
 use Rattle.table.proofs.Numbers.{by-order}
 
 -- a body has at most two numbers, and an entry one byte more than its body
@@ -101,12 +98,6 @@ pub unless-some : (n : ℕ) (s : Step) → (n ≡ 0 → ⊥) → unless n s ≡ 
 unless-some zero s h = absurd (h refl)
 unless-some (suc n) s h = refl
 
-misnamed-some : (names : Names) → misnamed names ≡ 0 → ⊥
-misnamed-some Nothing e = omega arith
-misnamed-some Predicates e = omega arith
-misnamed-some Rows e = omega arith
-misnamed-some Questions e = omega arith
-
 -- the three ways that a body goes
 module _ (kind : Kind) (body : List ℕ) (rows questions : ℕ) where
   abbrev first : ℕ
@@ -120,7 +111,7 @@ module _ (kind : Kind) (body : List ℕ) (rows questions : ℕ) where
 
   pub body-cut : length body < formOf kind .numbers → bodyStep kind body rows questions ≡ Bad 2
   unfolding bodyStep
-  body-cut h = rw (lt-ltb (length body) (formOf kind .numbers) h)
+  body-cut h = simp (lt-ltb _ _ h)
 
   pub body-named : formOf kind .numbers ≤ length body → allNamed ≡ true → bodyStep kind body rows questions ≡ placed (record { kind = kind; a = first; b = second })
   unfolding bodyStep
@@ -128,18 +119,4 @@ module _ (kind : Kind) (body : List ℕ) (rows questions : ℕ) where
 
   pub body-misnamed : formOf kind .numbers ≤ length body → allNamed ≡ false → bodyStep kind body rows questions ≡ Bad (misnamed (formOf kind .names))
   unfolding bodyStep
-  body-misnamed h e = rw (le-ltb (length body) (formOf kind .numbers) h, e) (unless-some (misnamed (formOf kind .names)) _ (misnamed-some (formOf kind .names)))
-
-  -- and all three at once, by the refusal that the code finds
-  pub body-by : (short : Bool) (why : ℕ) → ltb (length body) (formOf kind .numbers) ≡ short → why ≡ bodyRefusal short allNamed (formOf kind .names) →
-      bodyStep kind body rows questions ≡ unless why (placed (record { kind = kind; a = first; b = second }))
-  unfolding bodyStep
-  body-by short why p w = rw (w, p)
-
--- the test for a body that is cut short
-pub cut-test : (s : List ℕ) (at n : ℕ) → at < length s → ltb (length (drop (at + 1) s)) n ≡ leb (length s - at) n
-cut-test s at n h =
-    let m = length-drop (at + 1) s in
-    by-order (length (drop (at + 1) s)) n
-    (λ l. lt-ltb _ _ l ∙ sym (le-leb (length s - at) n (omega (arith, m))))
-    (λ l. le-ltb _ _ l ∙ sym (lt-leb (length s - at) n (omega (arith, m))))
+  body-misnamed h e = rw (le-ltb (length body) (formOf kind .numbers) h, e)

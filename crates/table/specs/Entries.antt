@@ -86,23 +86,19 @@ named numbers below a b = namedAt numbers below 0 a && namedAt numbers below 1 b
 abbrev pub placed : Entry → Step
 placed e = cond (isRow e) (Row e) (Question e)
 
--- a refusal's number, or where it is 0 the step
-abbrev pub unless : ℕ → Step → Step
-unless zero step = step
-unless (suc n) step = Bad (suc n)
-
--- 2, the body is cut short; then 3 and 4; 0 for none
-abbrev pub bodyRefusal : Bool → Bool → Names → ℕ
-bodyRefusal short fits names = cond short 2 (cond fits 0 (misnamed names))
-
--- the entry of a kind and the bytes behind its kind byte
+-- 2, the body is cut short; then 3 and 4
 unfoldable pub bodyStep : Kind → List ℕ → ℕ → ℕ → Step
 bodyStep kind body rows questions =
     let form = formOf kind in
     let a = numberAt (form .numbers) 0 body in
     let b = numberAt (form .numbers) 1 body in
-    unless (bodyRefusal (ltb (length body) (form .numbers)) (named (form .numbers) (limit (form .names) rows questions) a b) (form .names))
-    (placed (record { kind = kind; a = a; b = b }))
+    cond (ltb (length body) (form .numbers)) (Bad 2)
+    (cond (named (form .numbers) (limit (form .names) rows questions) a b) (placed (record { kind = kind; a = a; b = b })) (Bad (misnamed (form .names))))
+
+-- a refusal's number, or where it is 0 the step
+abbrev pub unless : ℕ → Step → Step
+unless zero step = step
+unless (suc n) step = Bad (suc n)
 
 -- 1, kind not listed; then 5, 6 and 7; then the body's
 unfoldable pub stepBy : Announced → List ℕ → ℕ → ℕ → Step

@@ -6,7 +6,7 @@ use crate::kinds::Names;
 ghost use mathlib.Core.Path.{_≡_};
 ghost use Prim.Native.Nat.{_+_, _-_, _<_};
 ghost use lib.ListN.{length, getD, drop};
-ghost use Rattle.table.specs.Entries.{numbersOf, uses, bytesOf, noRoom, limit, misnamed, numberAt, namedAt, placed, bodyRefusal, bodyStep, stepBy, stepOf, over};
+ghost use Rattle.table.specs.Entries.{numbersOf, uses, bytesOf, noRoom, limit, misnamed, numberAt, namedAt, placed, bodyStep, stepBy, stepOf, over};
 
 // A row or a question: its kind, and its numbers; 0 for one that its kind has not.
 pub struct Entry {
@@ -91,16 +91,12 @@ fn misnamed_of(names: Names) -> u8
     }
 }
 
-// The number at place i of the body behind a kind byte; 0 where there is none.
+// The number at place i of the body behind a kind byte; 0 where the body has none.
 fn number_at(s: &[u8], at: usize, numbers: usize, i: usize) -> u8
-    requires { ⌜ at < length (now s) ⌝ }
+    requires { ⌜ (at + numbers < length (now s)) × (i < 2) ⌝ }
     ensures { λ r. ⌜ r ≡ numberAt numbers i (drop (at + 1) (now (s .entry))) ⌝ }
 {
-    let left = s.len() - at - 1;
-    if numbers <= i {
-        return 0;
-    }
-    if i < left { s[at + 1 + i] } else { 0 }
+    if i < numbers { s[at + 1 + i] } else { 0 }
 }
 
 // Whether the number at place i is below its limit, or not there.
@@ -123,16 +119,6 @@ fn placed_as(e: Entry) -> Step
     }
 }
 
-// The refusal of a body: 2 where it is cut short, then that of a number which may not be named there; 0 for none.
-fn body_refusal(short: bool, fits: bool, names: Names) -> u8
-    ensures { λ r. ⌜ r ≡ bodyRefusal short fits names ⌝ }
-{
-    if short {
-        return 2;
-    }
-    if fits { 0 } else { misnamed_of(names) }
-}
-
 // The body of an entry whose kind byte stands at a place.
 fn body_at(kind: Kind, s: &[u8], at: usize, rows: usize, questions: usize) -> Step
     requires { ⌜ at < length (now s) ⌝ }
@@ -141,15 +127,16 @@ fn body_at(kind: Kind, s: &[u8], at: usize, rows: usize, questions: usize) -> St
     let form = crate::kinds::form_of(kind);
     let numbers = form.numbers;
     let names = form.names;
+    if s.len() - at <= numbers {
+        return Step::Bad(2);
+    }
     let below = limit_of(names, rows, questions);
     let a = number_at(s, at, numbers, 0);
     let b = number_at(s, at, numbers, 1);
-    let fits = named_at(numbers, below, 0, a) & named_at(numbers, below, 1, b);
-    let why = body_refusal(s.len() - at <= numbers, fits, names);
-    if why == 0 {
+    if named_at(numbers, below, 0, a) & named_at(numbers, below, 1, b) {
         placed_as(Entry { kind, a, b })
     } else {
-        Step::Bad(why)
+        Step::Bad(misnamed_of(names))
     }
 }
 
