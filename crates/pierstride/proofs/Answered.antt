@@ -8,12 +8,12 @@ use native.Mathlib.Omega.{arith}
 use lib.ListN.{length}
 use lib.Dec.{leb}
 use borrow.Author.Tests.{leb-false, lt-leb}
-use Rattle.table.specs.Reading.{Contents, Result, accepted, refused, reading, predicates}
+use Rattle.table.specs.Reading.{Contents, Result, accepted, refused, reading}
 use Rattle.decide.specs.Meaning.{decision}
 use Rattle.possible.specs.Possible.{possible}
-use Rattle.walk.specs.Walk.{walk, replyOf}
+use Rattle.walk.specs.Walk.{replyOf}
 use Rattle.pierstride.specs.Masks.{beyond, badMasks}
-use Rattle.pierstride.specs.Services.{Said, answered, refusing, onTable, askedWrongly, unlessWrong, decidedOf, remainingOf, repliedOf}
+use Rattle.pierstride.specs.Services.{Said, answered, refusing, onTable, askedWrongly, unlessWrong, decidedOf, remainingOf, repliedOf, walkOf}
 use Rattle.pierstride.specs.Services.{saysDecide, decideAnswer, saysPossible, possibleAnswer, saysVerdict, verdictAnswer}
 
 -- an answer speaks of an accepted table
@@ -64,7 +64,8 @@ module _ (s : List ℕ) (c : Contents) (is : reading s ≡ accepted c) where
     decides h g = ap decidedOf decide-says ∙ rw (g, asked-right (length (c .rows)) r h)
 
   module _ (r known request : ℕ) where
-    possible-says : saysPossible s r known request ≡ unlessWrong (askedWrongly (leb (length (c .rows)) r) (badMasks known request)) (possible (c .rows) known request r)
+    possible-says : saysPossible s r known request ≡
+        unlessWrong (askedWrongly (leb (length (c .rows)) r) (badMasks known request)) (possible (c .rows) known request r)
     unfolding saysPossible
     possible-says = rw is
 
@@ -75,6 +76,6 @@ module _ (s : List ℕ) (c : Contents) (is : reading s ≡ accepted c) where
         (well (length (c .rows)) r (badMasks known request) n, ap remainingOf possible-says ∙ rw n)
 
   pub replies : (q budget : ℕ) → q < length (c .questions) →
-      verdictAnswer s q budget ≡ repliedOf (replyOf budget (walk (c .rows) (c .questions) (predicates (c .rows)) q))
+      verdictAnswer s q budget ≡ repliedOf (replyOf budget (walkOf c q))
   unfolding saysVerdict
   replies q budget h = rw (is, asked-right (length (c .questions)) q h)

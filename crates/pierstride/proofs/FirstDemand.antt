@@ -20,7 +20,8 @@ use Rattle.strike.specs.declared.Struck.the-variants.{Written, Refused}
 use Rattle.strike.specs.Strike.{missing, inUse, tooShort, struckAnswer}
 use Rattle.strike.proofs.Telling.{refused-keeps}
 use Rattle.pierstride.specs.Masks.{beyond, badMasks}
-use Rattle.pierstride.specs.Services.{Said, answered, refusing, onTable, askedWrongly, unlessWrong, countsOf, decidedOf, remainingOf, repliedOf, verdictOf, locatedOf, closedOf}
+use Rattle.pierstride.specs.Services.{Said, answered, refusing, onTable, askedWrongly, unlessWrong}
+use Rattle.pierstride.specs.Services.{countsOf, decidedOf, remainingOf, repliedOf, verdictOf, locatedOf, closedOf}
 use Rattle.pierstride.specs.Services.{saysRead, readAnswer, saysDecide, decideAnswer, saysPossible, possibleAnswer, saysVerdict, verdictAnswer}
 use Rattle.pierstride.specs.Services.{saysPlace, saysEntry, entryAnswer, saysStruck, saysStrike, strikeAnswer, strikeOutput}
 use Rattle.pierstride.specs.Demands.{noOwn, ofDeciding, ofAsking, ofStriking, Due, Tells}
@@ -72,7 +73,8 @@ unfolding saysRead
 read-tells s =
     tells noOwn s countsOf (λ a. a .refusal) (λ a. a .place) refl (λ v. (refl, refl)) (λ n p. (refl, refl)) (saysRead s) (on-table noOwn s answered (λ c. tt))
 
-pub decide-tells : (s : List ℕ) (r request : ℕ) → Tells ofDeciding s (saysDecide s r request) (decideAnswer s r request .refusal) (decideAnswer s r request .place)
+pub decide-tells : (s : List ℕ) (r request : ℕ) →
+    Tells ofDeciding s (saysDecide s r request) (decideAnswer s r request .refusal) (decideAnswer s r request .place)
 unfolding saysDecide
 decide-tells s r request =
     tells ofDeciding s decidedOf (λ a. a .refusal) (λ a. a .place) refl (λ v. (refl, refl)) (λ n p. (refl, refl)) (saysDecide s r request)
@@ -85,7 +87,8 @@ possible-tells s r known request =
     tells ofDeciding s remainingOf (λ a. a .refusal) (λ a. a .place) refl (λ v. (refl, refl)) (λ n p. (refl, refl)) (saysPossible s r known request)
     (on-table ofDeciding s _ (λ c. asked ofDeciding s (leb (length (c .rows)) r) (badMasks known request) _ refl (λ e. refl)))
 
-pub verdict-tells : (s : List ℕ) (q budget : ℕ) → Tells ofAsking s (saysVerdict s q budget) (verdictAnswer s q budget .refusal) (verdictAnswer s q budget .place)
+pub verdict-tells : (s : List ℕ) (q budget : ℕ) →
+    Tells ofAsking s (saysVerdict s q budget) (verdictAnswer s q budget .refusal) (verdictAnswer s q budget .place)
 unfolding saysVerdict
 verdict-tells s q budget =
     tells ofAsking s verdictOf (λ a. a .refusal) (λ a. a .place) refl answering (λ n p. (refl, refl)) (saysVerdict s q budget)

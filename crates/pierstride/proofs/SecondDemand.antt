@@ -18,7 +18,7 @@ use Rattle.decide.specs.Requests.{Agree}
 use Rattle.decide.proofs.Independence.{independent}
 use Rattle.walk.specs.declared.Reply.the-variants.{Holds, Fails, Unfinished}
 use Rattle.walk.specs.Order.{comesBefore}
-use Rattle.walk.specs.Walk.{Found, nothing, breaking, visits, walk, replyOf}
+use Rattle.walk.specs.Walk.{Found, nothing, breaking, visits, replyOf}
 use Rattle.walk.proofs.Replies.{reply-within, reply-beyond}
 use Rattle.walk.proofs.Answers.{nothing-holds, breaking-first}
 use Rattle.strike.specs.declared.Struck.{Struck}
@@ -29,8 +29,9 @@ use Rattle.strike.proofs.Laws.{struck-rows, struck-questions}
 use Rattle.strike.proofs.Telling.{Done, done-of, struck-read}
 use Rattle.strike.proofs.Keeping.{decides-as-before, possible-as-before, verdict-kept}
 use Rattle.pierstride.specs.declared.Verdict.{Verdict}
-use Rattle.pierstride.specs.Services.{answered, decidedOf, repliedOf, saysStruck}
-use Rattle.pierstride.specs.Services.{saysRead, readAnswer, saysDecide, decideAnswer, saysPossible, possibleAnswer, saysVerdict, verdictAnswer, strikeAnswer, strikeOutput}
+use Rattle.pierstride.specs.Services.{answered, decidedOf, repliedOf, walkOf, saysStruck}
+use Rattle.pierstride.specs.Services.{saysRead, readAnswer, saysDecide, decideAnswer, saysPossible}
+use Rattle.pierstride.specs.Services.{possibleAnswer, saysVerdict, verdictAnswer, strikeAnswer, strikeOutput}
 use Rattle.pierstride.specs.Demands.{Breaks}
 use Rattle.pierstride.proofs.Answered.{decided, replies}
 use Rattle.pierstride.proofs.FirstDemand.{strike-tells}
@@ -66,19 +67,16 @@ module _ (s : List ℕ) (c : Contents) (is : reading s ≡ accepted c) (q b : �
   abbrev n : ℕ
   n = predicates (c .rows)
 
-  abbrev found : Found
-  found = walk (c .rows) (c .questions) n q
-
   pub holds-means : answer .reply ≡ 1 → (o : ℕ) → Breaks c q o → ⊥
   holds-means e o broken =
-      by-reply b found answer (replies s c is q b there)
+      by-reply b (walkOf c q) answer (replies s c is q b there)
       (λ k w l v. never (sym (nothing-holds (c .rows) (c .questions) q k w o) ∙ broken))
       (λ m k w l v. unlike answer _ 1 v e (λ z. omega arith))
       (λ l v. unlike answer _ 1 v e (λ z. omega arith))
 
   pub holds-if : (answer .reply ≡ 3 → ⊥) → ((o : ℕ) → o < 2 ^ n → Breaks c q o → ⊥) → answer .reply ≡ 1
   holds-if enough kept =
-      by-reply b found answer (replies s c is q b there)
+      by-reply b (walkOf c q) answer (replies s c is q b there)
       (λ k w l v. ap (λ (v : Verdict). v .reply) v)
       (λ m k w l v. let f = breaking-first (c .rows) (c .questions) q m k w in absurd (kept m (f .1) (f .0)))
       (λ l v. absurd (enough (ap (λ (v : Verdict). v .reply) v)))
@@ -86,7 +84,7 @@ module _ (s : List ℕ) (c : Contents) (is : reading s ≡ accepted c) (q b : �
   pub fails-means : answer .reply ≡ 2 →
       Breaks c q (answer .request) × (answer .request < 2 ^ n) × ((more o : ℕ) → comesBefore (n + more) o (answer .request) ≡ true → Breaks c q o → ⊥)
   fails-means e =
-      by-reply b found answer (replies s c is q b there)
+      by-reply b (walkOf c q) answer (replies s c is q b there)
       (λ k w l v. unlike answer _ 2 v e (λ z. omega arith))
       (λ m k w l v.
       let f = breaking-first (c .rows) (c .questions) q m k w in
@@ -95,7 +93,7 @@ module _ (s : List ℕ) (c : Contents) (is : reading s ≡ accepted c) (q b : �
 
   pub fails-if : (answer .reply ≡ 3 → ⊥) → (o : ℕ) → Breaks c q o → answer .reply ≡ 2
   fails-if enough o broken =
-      by-reply b found answer (replies s c is q b there)
+      by-reply b (walkOf c q) answer (replies s c is q b there)
       (λ k w l v. never (sym (nothing-holds (c .rows) (c .questions) q k w o) ∙ broken))
       (λ m k w l v. ap (λ (v : Verdict). v .reply) v)
       (λ l v. absurd (enough (ap (λ (v : Verdict). v .reply) v)))
@@ -140,12 +138,14 @@ module _ (s out : List ℕ) (r : ℕ) (done : strikeAnswer s r out .refusal ≡ 
   pub strike-keeps-decisions : (i request : ℕ) → (i ≡ r → ⊥) → decideAnswer new (lower r i) request ≡ decideAnswer s i request
   unfolding saysDecide
   strike-keeps-decisions i request other =
-      rw (new-read, of .is, still-there (of .contents) r whole (of .unnamed) (of .there) i other, decides-as-before (of .contents) r whole (of .unnamed) request i other)
+      let there = still-there (of .contents) r whole (of .unnamed) (of .there) i other in
+      rw (new-read, of .is, there, decides-as-before (of .contents) r whole (of .unnamed) request i other)
 
   pub strike-keeps-sets : (i known request : ℕ) → (i ≡ r → ⊥) → possibleAnswer new (lower r i) known request ≡ possibleAnswer s i known request
   unfolding saysPossible
   strike-keeps-sets i known request other =
-      rw (new-read, of .is, still-there (of .contents) r whole (of .unnamed) (of .there) i other, possible-as-before (of .contents) r whole (of .unnamed) known request i other)
+      let there = still-there (of .contents) r whole (of .unnamed) (of .there) i other in
+      rw (new-read, of .is, there, possible-as-before (of .contents) r whole (of .unnamed) known request i other)
 
   pub strike-keeps-verdicts : (j budget : ℕ) → verdictAnswer new j budget ≡ verdictAnswer s j budget
   unfolding saysVerdict

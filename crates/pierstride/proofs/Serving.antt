@@ -29,7 +29,8 @@ use Rattle.pierstride.specs.declared.Refusal.{Refusal}
 use Rattle.pierstride.specs.declared.Counts.{Counts}
 use Rattle.pierstride.specs.declared.Remaining.{Remaining}
 use Rattle.pierstride.specs.Masks.{beyond, badMasks}
-use Rattle.pierstride.specs.Services.{Said, answered, refusing, onTable, askedWrongly, unlessWrong, refusalOf, decidedOf, remainingOf, verdictOf, repliedOf}
+use Rattle.pierstride.specs.Services.{Said, answered, refusing, onTable, askedWrongly}
+use Rattle.pierstride.specs.Services.{unlessWrong, refusalOf, decidedOf, remainingOf, verdictOf, repliedOf, walkOf}
 use Rattle.pierstride.specs.Services.{saysRead, readAnswer, saysDecide, decideAnswer, saysPossible, possibleAnswer, saysVerdict, verdictAnswer}
 
 -- a refusal of reading's is passed on unchanged, by every service
@@ -72,7 +73,9 @@ module _ {s : List ℕ} {got : Reading} (o : Opened s got) where
   questions-at i = ap (λ (t : Table). getD (t .questions) i blank) (o .table) ∙ padded-at blank questionLimit (o .contents .questions) i
 
   -- what each service answers of it
-  pub counts-answer : _≡_ {A = Counts} (record { refusal = 0; place = 0; rows = got .table .used; questions = got .table .asked; predicates = got .table .predicates }) (readAnswer s)
+  pub counts-answer :
+      _≡_ {A = Counts} (record { refusal = 0; place = 0; rows = got .table .used; questions = got .table .asked; predicates = got .table .predicates })
+      (readAnswer s)
   unfolding saysRead
   counts-answer = rw (o .is, used-is, asked-is, predicates-is)
 
@@ -112,7 +115,7 @@ module _ {s : List ℕ} {got : Reading} (o : Opened s got) where
 
   module _ (at budget why : ℕ) (w : why ≡ askedWrongly (leb (got .table .asked) at) false) where
     abbrev walked : Reply
-    walked = replyOf budget (walk (o .contents .rows) (o .contents .questions) (predicates (o .contents .rows)) at)
+    walked = replyOf budget (walkOf (o .contents) at)
 
     verdict-said : saysVerdict s at budget ≡ unlessWrong why walked
     unfolding saysVerdict
@@ -124,7 +127,9 @@ module _ {s : List ℕ} {got : Reading} (o : Opened s got) where
     pub verdict-answers : why ≡ 0 → (p : Reply) → p ≡ replyOf budget (walk (got .table .rows) (got .table .questions) (got .table .predicates) at) →
         repliedOf p ≡ verdictAnswer s at budget
     verdict-answers e p q =
-        let same = same-walk (got .table .rows) (o .contents .rows) (got .table .questions) (o .contents .questions) rows-at questions-at (predicates (o .contents .rows)) at in
+        let t = got .table in
+        let c = o .contents in
+        let same = same-walk (t .rows) (c .rows) (t .questions) (c .questions) rows-at questions-at (predicates (c .rows)) at in
         let d : p ≡ walked = q ∙ rw predicates-is (ap (replyOf budget) same) in
         rw d (sym (ap verdictOf (verdict-said ∙ right why _ e)))
 

@@ -22,14 +22,14 @@ use Rattle.possible.specs.Possible.{possible}
 use Rattle.possible.proofs.Masks.{mask-below, member-bit, single-mask}
 use Rattle.possible.proofs.Filling.{filling-member, learning-adds-none, known-exact}
 use Rattle.walk.specs.declared.Reply.{Reply}
-use Rattle.walk.specs.Walk.{Found, visits, walk, replyOf, sees}
+use Rattle.walk.specs.Walk.{Found, visits, replyOf, sees}
 use Rattle.walk.proofs.Bits.{bit-above}
 use Rattle.walk.proofs.Budgets.{more-never-unsays, visits-bound}
 use Rattle.pierstride.specs.declared.Decided.{Decided}
 use Rattle.pierstride.specs.declared.Remaining.{Remaining}
 use Rattle.pierstride.specs.declared.Verdict.{Verdict}
 use Rattle.pierstride.specs.Masks.{beyond, knownBelow}
-use Rattle.pierstride.specs.Services.{onTable, askedWrongly, unlessWrong, repliedOf, verdictOf}
+use Rattle.pierstride.specs.Services.{onTable, askedWrongly, unlessWrong, repliedOf, verdictOf, walkOf}
 use Rattle.pierstride.specs.Services.{saysRead, readAnswer, decideAnswer, saysPossible, possibleAnswer, saysVerdict, verdictAnswer}
 use Rattle.pierstride.specs.Demands.{needed}
 use Rattle.pierstride.proofs.Answered.{table-of, decided, decides, remained, replies}
@@ -39,7 +39,7 @@ use Rattle.pierstride.proofs.SecondDemand.{by-reply, unlike}
 -- the verdict from a reading on
 abbrev fromReading : ℕ → ℕ → Result → Verdict
 fromReading q budget x =
-    verdictOf (onTable x (λ c. unlessWrong (askedWrongly (leb (length (c .questions)) q) false) (replyOf budget (walk (c .rows) (c .questions) (predicates (c .rows)) q))))
+    verdictOf (onTable x (λ c. unlessWrong (askedWrongly (leb (length (c .questions)) q) false) (replyOf budget (walkOf c q))))
 
 -- "if some budget brings a verdict, every larger budget brings the same verdict, the same first request and the same count of visits" (3 is the reply of an
 -- unfinished walk)
@@ -47,12 +47,13 @@ pub verdict-never-unsaid : (s : List ℕ) (q b more : ℕ) → b ≤ more → (v
 unfolding saysVerdict
 verdict-never-unsaid s q b more l h = on (reading s) h
   where
-    asked : (n : ℕ) (w : Found) → (verdictOf (unlessWrong n (replyOf b w)) .reply ≡ 3 → ⊥) → verdictOf (unlessWrong n (replyOf more w)) ≡ verdictOf (unlessWrong n (replyOf b w))
+    asked : (n : ℕ) (w : Found) → (verdictOf (unlessWrong n (replyOf b w)) .reply ≡ 3 → ⊥) →
+        verdictOf (unlessWrong n (replyOf more w)) ≡ verdictOf (unlessWrong n (replyOf b w))
     asked zero w h = ap repliedOf (more-never-unsays b more w l (λ e. h (ap (λ (v : Reply). repliedOf v .reply) e)))
     asked (suc n) w h = refl
 
     on : (x : Result) → (fromReading q b x .reply ≡ 3 → ⊥) → fromReading q more x ≡ fromReading q b x
-    on (accepted c) h = asked (askedWrongly (leb (length (c .questions)) q) false) (walk (c .rows) (c .questions) (predicates (c .rows)) q) h
+    on (accepted c) h = asked (askedWrongly (leb (length (c .questions)) q) false) (walkOf c q) h
     on (refused n p) h = refl
 
 -- "A budget is too small exactly if 01's walk needs more visits, and 2^(n+1) - 1 visits are always enough for n predicates."
@@ -60,20 +61,17 @@ module _ (s : List ℕ) (c : Contents) (is : reading s ≡ accepted c) (q b : �
   abbrev answer : Verdict
   answer = verdictAnswer s q b
 
-  abbrev found : Found
-  found = walk (c .rows) (c .questions) (predicates (c .rows)) q
-
   -- "unfinished, with the budget as the count"
   pub unfinished-means : answer .reply ≡ 3 → (b < needed c q) × (answer .visits ≡ b)
   unfinished-means e =
-      by-reply b found answer (replies s c is q b there)
+      by-reply b (walkOf c q) answer (replies s c is q b there)
       (λ k w l v. unlike answer _ 3 v e (λ z. omega arith))
       (λ m k w l v. unlike answer _ 3 v e (λ z. omega arith))
       (λ l v. (l, ap (λ (v : Verdict). v .visits) v))
 
   pub unfinished-if : b < needed c q → answer .reply ≡ 3
   unfinished-if l =
-      by-reply b found answer (replies s c is q b there)
+      by-reply b (walkOf c q) answer (replies s c is q b there)
       (λ k w g v. absurd (omega (arith, ap visits w)))
       (λ m k w g v. absurd (omega (arith, ap visits w)))
       (λ g v. ap (λ (v : Verdict). v .reply) v)
@@ -81,7 +79,7 @@ module _ (s : List ℕ) (c : Contents) (is : reading s ≡ accepted c) (q b : �
   -- a verdict gives the walk's own count
   pub verdict-counts : (answer .reply ≡ 3 → ⊥) → answer .visits ≡ needed c q
   verdict-counts enough =
-      by-reply b found answer (replies s c is q b there)
+      by-reply b (walkOf c q) answer (replies s c is q b there)
       (λ k w l v. ap (λ (v : Verdict). v .visits) v ∙ sym (ap visits w))
       (λ m k w l v. ap (λ (v : Verdict). v .visits) v ∙ sym (ap visits w))
       (λ l v. absurd (enough (ap (λ (v : Verdict). v .reply) v)))

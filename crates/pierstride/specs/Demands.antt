@@ -5,10 +5,10 @@ use mathlib.Core.Bool.{true, false}
 use mathlib.Core.List.{List, [], _∷_}
 use mathlib.Core.Logic.{_⊎_}
 use lib.ListN.{length}
-use Rattle.table.specs.Reading.{Contents, predicates, ofReading, isAmong}
+use Rattle.table.specs.Reading.{Contents, ofReading, isAmong}
 use Rattle.walk.specs.Questions.{truth}
-use Rattle.walk.specs.Walk.{visits, walk}
-use Rattle.pierstride.specs.Services.{Said, answered, refusing}
+use Rattle.walk.specs.Walk.{visits}
+use Rattle.pierstride.specs.Services.{Said, answered, refusing, walkOf}
 
 -- "one of 01's numbered refusals": each call's own, beside those of reading
 abbrev pub noOwn : List ℕ
@@ -39,4 +39,4 @@ Breaks c q o = truth (c .rows) (c .questions) o q ≡ false
 
 -- how many visits "01's walk needs"
 abbrev pub needed : Contents → ℕ → ℕ
-needed c q = visits (walk (c .rows) (c .questions) (predicates (c .rows)) q)
+needed c q = visits (walkOf c q)

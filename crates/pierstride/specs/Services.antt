@@ -18,7 +18,7 @@ use Rattle.possible.specs.Sets.{Set, mask}
 use Rattle.possible.specs.Possible.{possible}
 use Rattle.walk.specs.declared.Reply.{Reply}
 use Rattle.walk.specs.declared.Reply.the-variants.{Holds, Fails, Unfinished}
-use Rattle.walk.specs.Walk.{walk, replyOf}
+use Rattle.walk.specs.Walk.{Found, walk, replyOf}
 use Rattle.strike.specs.declared.Struck.{Struck}
 use Rattle.strike.specs.declared.Struck.the-variants.{Written, Refused as RefusedStrike}
 use Rattle.strike.specs.Strike.{struckAnswer, struckOutput}
@@ -99,9 +99,13 @@ abbrev pub verdictOf : Said Reply → Verdict
 verdictOf (answered reply) = repliedOf reply
 verdictOf (refusing n p) = record { refusal = n; place = p; reply = 0; request = 0; visits = 0 }
 
+-- 01's walk for a question of a table
+abbrev pub walkOf : Contents → ℕ → Found
+walkOf c q = walk (c .rows) (c .questions) (predicates (c .rows)) q
+
 unfoldable pub saysVerdict : List ℕ → ℕ → ℕ → Said Reply
 saysVerdict s q budget =
-    onTable (reading s) (λ c. unlessWrong (askedWrongly (leb (length (c .questions)) q) false) (replyOf budget (walk (c .rows) (c .questions) (predicates (c .rows)) q)))
+    onTable (reading s) (λ c. unlessWrong (askedWrongly (leb (length (c .questions)) q) false) (replyOf budget (walkOf c q)))
 
 abbrev pub verdictAnswer : List ℕ → ℕ → ℕ → Verdict
 verdictAnswer s q budget = verdictOf (saysVerdict s q budget)

@@ -316,7 +316,8 @@ pub extern "C" fn pier_entry(table: &[u8], row: u32) -> Located
 // The table without a row, over the front of the lent output; a refusal changes no lent byte.
 #[no_mangle]
 pub extern "C" fn pier_strike(table: &[u8], row: u32, out: &mut [u8]) -> Closed
-    ensures { λ r. ⌜ (r ≡ strikeAnswer (now (table .entry)) row (now (out .entry))) × (now (out .exit) ≡ strikeOutput (now (table .entry)) row (now (out .entry))) ⌝ }
+    ensures answer { λ r. ⌜ r ≡ strikeAnswer (now (table .entry)) row (now (out .entry)) ⌝ }
+    ensures output { λ r. ⌜ now (out .exit) ≡ strikeOutput (now (table .entry)) row (now (out .entry)) ⌝ }
 {
     let struck = strike::strike(table, row, out);
     match struck {

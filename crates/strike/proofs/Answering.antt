@@ -18,7 +18,8 @@ use Rattle.table.proofs.Writing.{entries, of-accepted}
 use Rattle.table.proofs.Opening.{Opened, Turned}
 use Rattle.strike.specs.declared.Struck.{Struck}
 use Rattle.strike.specs.declared.Struck.the-variants.{Written, Refused}
-use Rattle.strike.specs.Strike.{closedUp, struckBytes, namedBy, refusedAs, missing, inUse, tooShort, strikeRefusal, struckAnswer, outputBy, struckOutput, held, Fits}
+use Rattle.strike.specs.Strike.{closedUp, struckBytes, namedBy, refusedAs, missing, inUse}
+use Rattle.strike.specs.Strike.{tooShort, strikeRefusal, struckAnswer, outputBy, struckOutput, held, Fits}
 use Rattle.strike.proofs.Closing.{closed-bytes}
 use Rattle.strike.proofs.Laws.{struck-entries, output-of}
 use Rattle.strike.proofs.Filling.{table-fits, table-held, held-length, held-row}
@@ -100,7 +101,8 @@ module _ {s : List ℕ} {got : Reading} (o : Opened s got) where
           (w .0, q .1 ∙ ap (λ (b : List ℕ). b ++ drop a out) bytes ∙ w .1)
 
       -- 9 and 11, from what the code finds: whether the row is named, and whether the output is too short
-      pub stopped-answers : (named short : Bool) (why : ℕ) → named ≡ namedBy r (held (got .table)) → ltb (length out) (length (written (closedUp r (held (got .table))))) ≡ short →
+      pub stopped-answers : (named short : Bool) (why : ℕ) → named ≡ namedBy r (held (got .table)) →
+          ltb (length out) (length (written (closedUp r (held (got .table))))) ≡ short →
           why ≡ strikeRefusal named short → (why ≡ 0 → ⊥) → Answers s r out (Refused why 0) out
       stopped-answers true short why n l w h = rw w (named-answers (sym n))
       stopped-answers false true why n l w h = rw w (short-answers (sym n) (ltb-true _ _ l))

@@ -82,7 +82,8 @@ module _ {t : Table} (f : Fits t) (r : ℕ) (u : r < t .used) where
       ⊎-elim (λ w. below w .1 ∙ sym (old-below r j (below w .0))) (λ w. above w .1 ∙ add-one j ∙ sym (old-above r j (above w .0))) number in
       let here : i < t .used + t .asked = ⊎-elim (λ w. let b = below w in omega arith) (λ w. let b = above w in omega arith) number in
       let m : g ≡ lowered r (getD (held t) i blank) =
-      ⊎-elim (λ w. row w .1 ∙ ap (lowered r) (sym (held-row f i (row w .0)))) (λ w. question w .1 ∙ ap (lowered r) (sym (held-question f i (question w .0) here))) entry in
+      ⊎-elim (λ w. row w .1 ∙ ap (lowered r) (sym (held-row f i (row w .0))))
+      (λ w. question w .1 ∙ ap (lowered r) (sym (held-question f i (question w .0) here))) entry in
       m ∙ ap (λ (i : ℕ). lowered r (getD (held t) i blank)) o ∙ sym (closed-at r (held t) j)
 
 -- the first j entries stand in the output, up to a place, and behind them what was there; all of them fit

@@ -8,7 +8,8 @@ ghost use mathlib.Core.List.{_++_};
 ghost use Prim.Native.Nat.{_≤_, _<_};
 ghost use lib.ListN.{length, drop};
 ghost use Rattle.table.specs.Reading.{reading, written};
-ghost use Rattle.strike.specs.Strike.{lower, rowNumbers, lowered, closedUp, isAt, names, namedBy, refusedAs, strikeRefusal, struckAnswer, struckOutput, held, Fits};
+ghost use Rattle.strike.specs.Strike.{lower, rowNumbers, lowered, closedUp, isAt, names};
+ghost use Rattle.strike.specs.Strike.{namedBy, refusedAs, strikeRefusal, struckAnswer, struckOutput, held, Fits};
 
 // How many bytes were written, or a refusal's number and place.
 pub enum Struck {

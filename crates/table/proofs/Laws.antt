@@ -20,7 +20,8 @@ use Rattle.table.specs.declared.kinds.Names.the-variants.{Nothing, Predi
 use Rattle.table.specs.declared.entries.Step.{Step}
 use Rattle.table.specs.declared.entries.Step.the-variants.{Row, Question, Bad}
 use Rattle.table.specs.Kinds.{kindOf, formOf}
-use Rattle.table.specs.Entries.{predicateLimit, rowLimit, questionLimit, blank, bytesOf, uses, usedBy, isRow, noRoom, limit, misnamed, numberAt, named, placed, bodyStep, unless, stepBy, stepOf}
+use Rattle.table.specs.Entries.{predicateLimit, rowLimit, questionLimit, blank, bytesOf, uses, usedBy, isRow, noRoom}
+use Rattle.table.specs.Entries.{limit, misnamed, numberAt, named, placed, bodyStep, unless, stepBy, stepOf}
 use Rattle.table.specs.Reading.{Contents, none, accepted, refused, after, readOn, reading, ofReading, isAmong, predicates, written}
 use Rattle.table.proofs.OneEntry.{few, length-bytes, body-cut}
 use Rattle.table.proofs.Writing.{entries, Sound, Each, each-get, Stopped, of-accepted, of-refused, read-past, whole-accepted}

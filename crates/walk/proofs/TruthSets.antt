@@ -24,7 +24,8 @@ use Rattle.possible.specs.Sets.{Set, has, Within, single, some}
 use Rattle.possible.specs.Possible.{possible}
 use Rattle.possible.proofs.Images.{some-of, which, single-has, single-is}
 use Rattle.possible.proofs.Filling.{filling-member, learning-adds-none, known-exact}
-use Rattle.walk.specs.Questions.{truthBy, asks, truth, Truths, hasTruth, thoseTruths, someTruth, onlyTruth, compareSet, notSet, bothSet, truthSetBy, asksSet, truthSet, TruthsWithin}
+use Rattle.walk.specs.Questions.{truthBy, asks, truth, Truths, hasTruth, thoseTruths, someTruth}
+use Rattle.walk.specs.Questions.{onlyTruth, compareSet, notSet, bothSet, truthSetBy, asksSet, truthSet, TruthsWithin}
 
 -- membership is the test, and some truth passes a test if one does, and then there is one that does
 has-those : (p : Bool → Bool) (b : Bool) → hasTruth (thoseTruths p) b ≡ p b

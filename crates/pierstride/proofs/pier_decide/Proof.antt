@@ -14,7 +14,9 @@ unfolding saysDecide
 returns c =
     let start = c .before .before .before .before .before .before .args in
     let got = c .before .before .before .before .read in
-    let t = turned (start .table .now) (got .result) (got .ensures) (λ q. let z : _≡_ {A = ℕ} 0 1 = rw q at (c .before .before .before .match .keys2) in omega arith) in
+    let t =
+    turned (start .table .now) (got .result) (got .ensures)
+    (λ q. let z : _≡_ {A = ℕ} 0 1 = rw q at (c .before .before .before .match .keys2) in omega arith) in
     passed-on decidedOf _ t (c .before .refusal-of .result) (c .no-decision .result) (c .before .refusal-of .ensures) (c .no-decision .ensures)
 
 returns-2 : tie.Need-returns-2
@@ -26,8 +28,9 @@ returns-2 c =
     let start = told .before .before .before .before .args in
     let o = opened (start .table .now) (got .result) (got .ensures) (told .enum-told .given .1) in
     let why = asked .asked-wrongly in
+    let bad = masks .mask-beyond in
     c .no-decision2 .ensures
-    ∙ decide-refuses o (start .row) (start .request) (why .result) (masks .mask-beyond .result) (masks .mask-beyond .ensures) (why .ensures) (c .before .if1 .taken)
+    ∙ decide-refuses o (start .row) (start .request) (why .result) (bad .result) (bad .ensures) (why .ensures) (c .before .if1 .taken)
 
 returns-3 : tie.Need-returns-3
 returns-3 c =
@@ -38,9 +41,10 @@ returns-3 c =
     let start = told .before .before .before .before .args in
     let o = opened (start .table .now) (got .result) (got .ensures) (told .enum-told .given .1) in
     let why = asked .asked-wrongly in
+    let bad = masks .mask-beyond in
     let decision = c .before .decide in
     rw (c .code-of .ensures)
-    (decide-answers o (start .row) (start .request) (why .result) (masks .mask-beyond .result) (masks .mask-beyond .ensures) (why .ensures) (c .before .before .if1 .left)
+    (decide-answers o (start .row) (start .request) (why .result) (bad .result) (bad .ensures) (why .ensures) (c .before .before .if1 .left)
     (decision .result) (decision .ensures))
 
 pub pier-decide-spec : {M : Type 1} → statement M

@@ -14,7 +14,9 @@ unfolding saysVerdict
 returns c =
     let start = c .before .before .before .before .before .before .args in
     let got = c .before .before .before .before .read in
-    let t = turned (start .table .now) (got .result) (got .ensures) (λ q. let z : _≡_ {A = ℕ} 0 1 = rw q at (c .before .before .before .match .keys2) in omega arith) in
+    let t =
+    turned (start .table .now) (got .result) (got .ensures)
+    (λ q. let z : _≡_ {A = ℕ} 0 1 = rw q at (c .before .before .before .match .keys2) in omega arith) in
     passed-on verdictOf _ t (c .before .refusal-of .result) (c .no-verdict .result) (c .before .refusal-of .ensures) (c .no-verdict .ensures)
 
 returns-2 : tie.Need-returns-2

@@ -11,7 +11,8 @@ returns : tie.Need-returns
 returns c =
     let tested = c .before .before .before in
     let form = tested .before in
-    let rows : rowNumbers (formOf (form .before .args .e .kind) .names) ≡ true = sym (rw (form .form-of .ensures) at (tested .row-numbers .ensures)) ∙ c .before .before .if1 .taken in
+    let rows : rowNumbers (formOf (form .before .args .e .kind) .names) ≡ true =
+    sym (rw (form .form-of .ensures) at (tested .row-numbers .ensures)) ∙ c .before .before .if1 .taken in
     rw (rows, c .before .lower-of .ensures, c .lower-of2 .ensures)
 
 pub lowered-of-spec : {M : Type 1} → statement M

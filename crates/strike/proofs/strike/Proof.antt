@@ -82,7 +82,8 @@ returns-3 c =
     omega (arith, size .numbers-of .ensures .0, bytes-left o row (there .if1 .left)) in
     let named = why .before .named in
     let refusal = why .strike-refusal in
-    stopped-answers o row (there .if1 .left) out (named .result) _ (refusal .result) (named .ensures) (ap (ltb (length out)) (sym left)) (refusal .ensures) (c .if2 .taken)
+    stopped-answers o row (there .if1 .left) out (named .result) _ (refusal .result)
+    (named .ensures) (ap (ltb (length out)) (sym left)) (refusal .ensures) (c .if2 .taken)
 
 write-requires : tie.Need-write-requires
 write-requires c κs =

@@ -44,7 +44,8 @@ add-at c =
     let here : at .j < length (closedUp r (held (start .args .t1))) = omega (arith, closed-count (start .pre .0) r (start .pre .1)) in
     let next =
     closed-next (start .pre .0) r (start .pre .1) (at .j) (number .if1 .i) (e .e) (omega arith)
-    (λ w. (w .0 .taken, w .1)) (λ w. (w .0 .left, w .1)) (number .if1 .came) (λ w. (w .0 .taken, w .4 ∙ w .3 .ensures)) (λ w. (w .0 .left, w .4 ∙ w .3 .ensures)) (e .came) in
+    (λ w. (w .0 .taken, w .1)) (λ w. (w .0 .left, w .1)) (number .if1 .came)
+    (λ w. (w .0 .taken, w .4 ∙ w .3 .ensures)) (λ w. (w .0 .left, w .4 ∙ w .3 .ensures)) (e .came) in
     let p = put .put in
     record { fits = omega (arith, p .ensures .0, filled-room (at .inv .1) here (e .e) next) }
 
@@ -61,7 +62,8 @@ loop-again c =
     let here : at .j < length (closedUp r (held (start .args .t1))) = omega (arith, closed-count (start .pre .0) r (start .pre .1)) in
     let next =
     closed-next (start .pre .0) r (start .pre .1) (at .j) (number .if1 .i) (e .e) (omega arith)
-    (λ w. (w .0 .taken, w .1)) (λ w. (w .0 .left, w .1)) (number .if1 .came) (λ w. (w .0 .taken, w .4 ∙ w .3 .ensures)) (λ w. (w .0 .left, w .4 ∙ w .3 .ensures)) (e .came) in
+    (λ w. (w .0 .taken, w .1)) (λ w. (w .0 .left, w .1)) (number .if1 .came)
+    (λ w. (w .0 .taken, w .4 ∙ w .3 .ensures)) (λ w. (w .0 .left, w .4 ∙ w .3 .ensures)) (e .came) in
     let p = put .put in
     (omega arith, filled-more (at .inv .1) here (e .e) next (length (at .out) - at .at) (p .result) (p .last .0) refl (p .ensures .0) (p .ensures .1))
 

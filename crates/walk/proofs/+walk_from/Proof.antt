@@ -66,7 +66,8 @@ walk-from-returns-2 t c =
     let start = paid .before .before .before .before .before in
     let a = start .args in
     let see = sees (entriesIn (a .rows .now)) (entriesIn (a .questions .now)) (a .question) in
-    none-left see (a .n) (a .k) (a .facts) (a .budget) (omega (arith, paid .if1 .left)) (sym (seen .visit .ensures) ∙ told .enum-told3 .given .1) (c .if2 .taken)
+    none-left see (a .n) (a .k) (a .facts) (a .budget) (omega (arith, paid .if1 .left))
+    (sym (seen .visit .ensures) ∙ told .enum-told3 .given .1) (c .if2 .taken)
 
 walk-from-with-yes-requires : (t : ℕ) → walk-from-lts.Need-with-yes-requires (
   visit-reads.Asked,
@@ -343,7 +344,8 @@ walk-from-returns-6 t c =
     let holds = held .first .given in
     let within = held-count (first .walk-from .result) (holds .0 .0) _ _ (first .walk-from .ensures) (holds .1) in
     c .plus2 .ensures
-    ∙ second-ends see (a .n) (a .k) (a .facts) (a .budget) less (omega (arith, paid .if1 .left)) unsettled (first .walk-from .result) (second .walk-from2 .result) (holds .0 .0)
+    ∙ second-ends see (a .n) (a .k) (a .facts) (a .budget) less (omega (arith, paid .if1 .left)) unsettled
+    (first .walk-from .result) (second .walk-from2 .result) (holds .0 .0)
     (first .walk-from .ensures) (holds .1) within (rw (yes .with-yes .ensures .0) at (second .walk-from2 .ensures))
 
 pub +walk-from-spec : {M : Type 1} → statement M
