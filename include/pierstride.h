@@ -65,7 +65,7 @@ enum {
     PIER_UNFINISHED = 3 /* the walk makes more visits than the budget */
 };
 
-/* No call needs more than this many bytes of stack. */
+/* No call needs more than this many bytes of stack (measured on the largest tables). */
 enum { PIER_STACK_BYTES = 32 * 1024 };
 
 /*

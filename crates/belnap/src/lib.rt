@@ -1,5 +1,5 @@
-// The four decisions of the rule desk, with their two claims and their codes.
-// The operators and the two orders over them stand in the modules below.
+// The four decisions of the rule desk and their codes. What each claims is defined in specs/Decisions.antt.
+// The operators over them, and the names of the two orders, stand in the modules below.
 pub mod operators;
 pub mod orders;
 

@@ -2,3 +2,4 @@
 pub mod RowByRow
 pub mod Independence
 pub mod Unique
+pub mod Rules

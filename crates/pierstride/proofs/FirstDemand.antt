@@ -43,12 +43,12 @@ tells : {A B : Type 0} (own s : List ℕ) (shows : Said A → B) (refusal place 
     (said : Said A) → DueOf own s said → Tells own s said (refusal (shows said)) (place (shows said))
 tells own s shows refusal place o a r (answered v) d = record {
   answers = λ e. (v, refl);
-  zero = λ w e. a v;
+  none = λ w e. a v;
   refuses = λ h. absurd (h (a v .0));
 }
 tells own s shows refusal place o a r (refusing n p) d = record {
   answers = λ e. absurd (never-zero own s n p o d (sym (r n p .0) ∙ e));
-  zero = λ w e. absurd (let z : _≡_ {A = ℕ} 0 1 = cc in omega arith);
+  none = λ w e. absurd (let z : _≡_ {A = ℕ} 0 1 = cc in omega arith);
   refuses = λ h. rw (r n p .0, r n p .1) (refl, d);
 }
 

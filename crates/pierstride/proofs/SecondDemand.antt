@@ -1,21 +1,29 @@
--- The letter's second demand, of the services' answers: a decision goes by the predicates that the row reaches; a question holds exactly if no request breaks
--- it, and else the first request that does is shown; what striking wrote, given to the services again, brings the old answers under the new numbers.
+-- The letter's second demand, of the services' answers: a row decides by its kind's rule, and by the predicates that it reaches alone; a question holds exactly if
+-- no request breaks it, and else the first request that does is shown; what striking wrote, given to the services again, brings the old answers under the new
+-- numbers.
 -- Assumes nothing.
 use mathlib.Core.Path.{_≡_, refl, sym, ap, _∙_}
 use mathlib.Core.Bool.{true, false}
 use mathlib.Core.List.{List}
 use Prim.Native.Nat.{ℕ, suc, _+_, _-_, _^_, _≤_, _<_}
 use native.Mathlib.Omega.{arith}
-use lib.ListN.{length, take, drop}
+use lib.ListN.{length, getD, take, drop}
 use lib.Dec.{leb}
 use borrow.Author.Tests.{lt-leb, le-leb}
 use Rattle.belnap.specs.declared.Decision.{Decision}
+use Rattle.belnap.specs.Decisions.{code, coded}
+use Rattle.belnap.proofs.Codes.{coded-code}
+use Rattle.table.specs.Entries.{blank}
 use Rattle.table.specs.Reading.{Contents, accepted, reading, predicates}
 use Rattle.table.proofs.Numbers.{by-order}
-use Rattle.table.proofs.Writing.{entries, Whole, of-accepted}
+use Rattle.table.proofs.Laws.{row-sound}
+use Rattle.table.specs.Whole.{Whole}
+use Rattle.table.proofs.Writing.{of-accepted}
+use Rattle.decide.specs.Meaning.{decideBy, decision}
 use Rattle.decide.specs.Reach.{reaches}
 use Rattle.decide.specs.Requests.{Agree}
 use Rattle.decide.proofs.Independence.{independent}
+use Rattle.decide.proofs.Rules.{operands, by-rule}
 use Rattle.walk.specs.declared.Reply.the-variants.{Holds, Fails, Unfinished}
 use Rattle.walk.specs.Order.{comesBefore}
 use Rattle.walk.specs.Walk.{Found, nothing, breaking, visits, replyOf}
@@ -23,18 +31,35 @@ use Rattle.walk.proofs.Replies.{reply-within, reply-beyond}
 use Rattle.walk.proofs.Answers.{nothing-holds, breaking-first}
 use Rattle.strike.specs.declared.Struck.{Struck}
 use Rattle.strike.specs.declared.Struck.the-variants.{Written, Refused}
-use Rattle.strike.specs.Strike.{lower, struck, namedBy, struckAnswer}
+use Rattle.strike.specs.Strike.{lower, struck, struckAnswer}
 use Rattle.strike.proofs.Renumbering.{lower-above, lower-below}
 use Rattle.strike.proofs.Laws.{struck-rows, struck-questions}
 use Rattle.strike.proofs.Telling.{Done, done-of, struck-read}
 use Rattle.strike.proofs.Keeping.{decides-as-before, possible-as-before, verdict-kept}
+use Rattle.pierstride.specs.declared.Decided.{Decided}
 use Rattle.pierstride.specs.declared.Verdict.{Verdict}
 use Rattle.pierstride.specs.Services.{answered, decidedOf, repliedOf, walkOf, saysStruck}
 use Rattle.pierstride.specs.Services.{saysRead, readAnswer, saysDecide, decideAnswer, saysPossible}
 use Rattle.pierstride.specs.Services.{possibleAnswer, saysVerdict, verdictAnswer, strikeAnswer, strikeOutput}
 use Rattle.pierstride.specs.Demands.{Breaks}
-use Rattle.pierstride.proofs.Answered.{decided, replies}
+use Rattle.pierstride.proofs.Answered.{decided, decides, replies}
 use Rattle.pierstride.proofs.FirstDemand.{strike-tells}
+
+-- "Decisions are those of PBel as 01 condenses it": a row's code is that of its kind's rule, over what the same call answers for the rows that it names
+pub decide-by-rule : (s : List ℕ) (c : Contents) → reading s ≡ accepted c → (r request : ℕ) → decideAnswer s r request .refusal ≡ 0 →
+    let e = getD (c .rows) r blank in
+    decideAnswer s r request .code ≡
+    code (decideBy (e .kind) (e .a) request (coded (decideAnswer s (e .a) request .code)) (coded (decideAnswer s (e .b) request .code)))
+decide-by-rule s c is r request told =
+    let e = getD (c .rows) r blank in
+    let d = decided s c is r request told in
+    let lower : (x : ℕ) → x < r → decision (c .rows) request x ≡ coded (decideAnswer s x request .code) =
+    λ x h.
+    let lower = decides s c is x request (omega (arith, d .0 .there)) (d .0 .good) in
+    sym (ap (λ (a : Decided). coded (a .code)) lower ∙ coded-code (decision (c .rows) request x)) in
+    ap (λ (a : Decided). a .code) (d .1)
+    ∙ ap code (by-rule s c is r request (d .0 .there)
+    ∙ operands (e .kind) (e .a) (e .b) r request _ _ _ _ (row-sound s c is r (d .0 .there)) (lower (e .a)) (lower (e .b)))
 
 -- "Two requests that agree on every predicate that a row reaches … get the same decision from it"
 pub decide-independent : (s : List ℕ) (c : Contents) → reading s ≡ accepted c → (r m o : ℕ) → Agree (reaches (c .rows) r) m o →
@@ -98,9 +123,8 @@ module _ (s : List ℕ) (c : Contents) (is : reading s ≡ accepted c) (q b : �
       (λ m k w l v. ap (λ (v : Verdict). v .reply) v)
       (λ l v. absurd (enough (ap (λ (v : Verdict). v .reply) v)))
 
--- a table without a row that nothing names
-module _ (c : Contents) (r : ℕ) (w : Whole c) (unnamed : namedBy r (entries c) ≡ false) (there : r < length (c .rows)) where
-  -- a row other than r is there under its new number exactly if it was there
+-- a row other than the struck one is there under its new number exactly if it was there
+module _ (c : Contents) (r : ℕ) (there : r < length (c .rows)) where
   still-there : (i : ℕ) → (i ≡ r → ⊥) → leb (length (struck r c .rows)) (lower r i) ≡ leb (length (c .rows)) i
   still-there i other =
       let old = length (c .rows) in
@@ -138,13 +162,13 @@ module _ (s out : List ℕ) (r : ℕ) (done : strikeAnswer s r out .refusal ≡ 
   pub strike-keeps-decisions : (i request : ℕ) → (i ≡ r → ⊥) → decideAnswer new (lower r i) request ≡ decideAnswer s i request
   unfolding saysDecide
   strike-keeps-decisions i request other =
-      let there = still-there (of .contents) r whole (of .unnamed) (of .there) i other in
+      let there = still-there (of .contents) r (of .there) i other in
       rw (new-read, of .is, there, decides-as-before (of .contents) r whole (of .unnamed) request i other)
 
   pub strike-keeps-sets : (i known request : ℕ) → (i ≡ r → ⊥) → possibleAnswer new (lower r i) known request ≡ possibleAnswer s i known request
   unfolding saysPossible
   strike-keeps-sets i known request other =
-      let there = still-there (of .contents) r whole (of .unnamed) (of .there) i other in
+      let there = still-there (of .contents) r (of .there) i other in
       rw (new-read, of .is, there, possible-as-before (of .contents) r whole (of .unnamed) known request i other)
 
   pub strike-keeps-verdicts : (j budget : ℕ) → verdictAnswer new j budget ≡ verdictAnswer s j budget

@@ -30,7 +30,7 @@ Due own s n p = ((isAmong ofReading n ≡ true) × (p < length s)) ⊎ ((isAmong
 -- `refusal` is 0 exactly if the call answered; otherwise it and `place` are those of a refusal that 01 gives the call
 pub record Tells {A : Type 0} (own s : List ℕ) (said : Said A) (refusal place : ℕ) : Type 0 where
   pub answers : refusal ≡ 0 → (v : A) × (said ≡ answered v)
-  pub zero : (v : A) → said ≡ answered v → (refusal ≡ 0) × (place ≡ 0)
+  pub none : (v : A) → said ≡ answered v → (refusal ≡ 0) × (place ≡ 0)
   pub refuses : (refusal ≡ 0 → ⊥) → (said ≡ refusing refusal place) × Due own s refusal place
 
 -- "A request breaks a question if it is false there."

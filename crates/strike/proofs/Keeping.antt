@@ -163,7 +163,7 @@ module _ (c : Contents) (r : ℕ) (w : Whole c) (unnamed : namedBy r (entries c)
   pub possible-kept : (known request j : ℕ) → possible fewer known request j ≡ possible rows known request (old r j)
   possible-kept known request = value-kept (setOf known request) (single U) (sets-come known request)
 
-  -- "After a strike every remaining row decides as before under its new number", and has the sets it had
+  -- "Once a row is struck, every remaining row decides as before under its new number", and has the sets it had
   pub decides-as-before : (m i : ℕ) → (i ≡ r → ⊥) → decision fewer m (lower r i) ≡ decision rows m i
   decides-as-before m i other = decision-kept m (lower r i) ∙ ap (decision rows m) (old-lower r i other)
 

@@ -5,8 +5,8 @@ use mathlib.Core.Bool.{Bool, true, false, cond}
 use mathlib.Core.List.{List, [], _∷_, _++_, append-assoc}
 use Prim.Native.Nat.{ℕ, zero, suc, _+_, _*_, _-_, _≤_, _<_}
 use native.Mathlib.Omega.{arith}
-use lib.ListN.{length, getD, take, length-append, List·getD-append}
-use lib.Seq.{take-at, take-append-add, getD-at, getD-take, length-take-le}
+use lib.ListN.{length, getD, take, drop, length-append, List·getD-append}
+use lib.Seq.{take-at, drop-at, take-append-add, getD-at, getD-take, length-take-le}
 use lib.Dec.{ltb}
 use borrow.Author.Tests.{ltb-true, ltb-false, le-ltb}
 use Rattle.belnap.proofs.Finite.{both-parts}
@@ -204,10 +204,18 @@ module _ (s : List ℕ) (n p : ℕ) (q : reading s ≡ refused n p) where
     omega (arith, stop .place, length-append before (stop .kind ∷ stop .rest), ap length bytes),
   )
 
-  -- the bytes before the refused entry are an accepted table
-  pub before-refused : (c : Contents) × (reading (take p s) ≡ accepted c)
+  rest-here : drop (p + 1) s ≡ stop .rest
   unfolding before
-  before-refused = (stop .before, ap reading front ∙ whole-accepted (stop .before) (stop .whole))
+  rest-here =
+      let front = before ++ (stop .kind ∷ []) in
+      let long : length front ≡ p + 1 = omega (arith, length-append before (stop .kind ∷ []), stop .place) in
+      ap (drop (p + 1)) (sym bytes ∙ sym (append-assoc before (stop .kind ∷ []) (stop .rest))) ∙ drop-at front (stop .rest) (p + 1) long
+
+  -- the place is where the refused entry starts: the bytes before it are an accepted table, and there the kind byte and what follows bring this refusal
+  pub refused-at : (c : Contents) × (reading (take p s) ≡ accepted c) ×
+      (stepOf (getD s p 0) (drop (p + 1) s) (length (c .rows)) (length (c .questions)) ≡ Bad n)
+  unfolding before
+  refused-at = (stop .before, ap reading front ∙ whole-accepted (stop .before) (stop .whole), rw (kind-here, rest-here) (stop .bad))
 
   -- and, but for 2, whatever follows the refused entry's own bytes does not matter
   pub refused-anyway : (n ≡ 2 → ⊥) → (more : List ℕ) → reading (take (p + suc (ownBytes (kindOf (getD s p 0)))) s ++ more) ≡ refused n p

@@ -12,34 +12,16 @@ use lib.Dec.{ltb}
 use Rattle.table.specs.declared.entries.Entry.{Entry}
 use Rattle.table.specs.declared.entries.Step.{Step}
 use Rattle.table.specs.declared.entries.Step.the-variants.{Row, Question, Bad}
-use Rattle.table.specs.Kinds.{byteOf, formOf}
-use Rattle.table.specs.Entries.{isRow, numbersOf, bytesOf, rowLimit, questionLimit, limit, numberAt, named, placed, stepBy, stepOf}
+use Rattle.table.specs.Kinds.{byteOf}
+use Rattle.table.specs.Entries.{isRow, numbersOf, bytesOf, rowLimit, questionLimit, numberAt, placed, stepBy, stepOf}
 use Rattle.table.specs.Reading.{Contents, none, withRow, withQuestion, Result, accepted, refused, after, readOn, reading, written}
+pub use Rattle.table.specs.Whole.{entries, Tidy, Sound, Each, Whole}
 use Rattle.table.proofs.KindTable.{kind-of-byte}
 use Rattle.table.proofs.OneEntry.{few, length-front, length-bytes, body-named, unless-none}
 use Rattle.table.proofs.Steps.{Allowed, Took, said-of}
 use Rattle.table.proofs.Turns.{enough, room-of, room-for, read-none}
 
--- the entries of a table in order
-abbrev pub entries : Contents → List Entry
-entries c = c .rows ++ c .questions
-
--- a number that an entry's kind has not is 0
-pub record Tidy (e : Entry) : Type 0 where
-  pub first : e .a ≡ numberAt (numbersOf e) 0 (e .a ∷ e .b ∷ [])
-  pub second : e .b ≡ numberAt (numbersOf e) 1 (e .a ∷ e .b ∷ [])
-
--- an entry of a table, with so many rows and questions that it may name
-pub record Sound (row : Bool) (rows questions : ℕ) (e : Entry) : Type 0 where
-  pub part : isRow e ≡ row
-  pub names : named (numbersOf e) (limit (formOf (e .kind) .names) rows questions) (e .a) (e .b) ≡ true
-  pub tidy : Tidy e
-
--- each element of a list, with its number
-abbrev pub Each : {A : Type 0} → (ℕ → A → Type 0) → ℕ → List A → Type 0
-Each P i [] = Unit
-Each P i (x ∷ l) = P i x × Each P (suc i) l
-
+-- what holds of each element of a list
 pub each-at : {A : Type 0} (P : ℕ → A → Type 0) (i : ℕ) (l : List A) (d : A) → Each P i l → (j : ℕ) → j < length l → P (i + j) (getD l j d)
 each-at P i [] d h j l = absurd (omega arith)
 each-at P i (x ∷ xs) d h zero l = let q : i + zero ≡ i = omega arith in rw q (h .0)
@@ -57,13 +39,6 @@ each-of P i (x ∷ xs) d h =
 pub each-more : {A : Type 0} (P : ℕ → A → Type 0) (i : ℕ) (l : List A) (x : A) → Each P i l → P (i + length l) x → Each P i (l ++ (x ∷ []))
 each-more P i [] x h p = (let q : i + 0 ≡ i = omega arith in rw q at p, tt)
 each-more P i (y ∷ l) x h p = (h .0, each-more P (suc i) l x (h .1) (let q : suc i + length l ≡ i + suc (length l) = omega arith in rw q p))
-
--- a table that reading can accept
-pub record Whole (c : Contents) : Type 0 where
-  pub rows-fit : length (c .rows) ≤ rowLimit
-  pub questions-fit : length (c .questions) ≤ questionLimit
-  pub rows-sound : Each (λ i e. Sound true i 0 e) 0 (c .rows)
-  pub questions-sound : Each (λ j e. Sound false (length (c .rows)) j e) 0 (c .questions)
 
 -- the bytes of an entry that was read are those that it was read from
 front-of : (n a b : ℕ) (body : List ℕ) → n < 3 → n ≤ length body → a ≡ numberAt n 0 body → b ≡ numberAt n 1 body → take n (a ∷ b ∷ []) ≡ take n body

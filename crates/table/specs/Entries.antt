@@ -57,7 +57,8 @@ unfoldable pub noRoom : Bool → ℕ → ℕ → ℕ
 noRoom true rows questions = cond (ltb 0 questions) 5 (cond (ltb rows rowLimit) 0 6)
 noRoom false rows questions = cond (ltb questions questionLimit) 0 7
 
--- "A row may name only rows with a lower number; 42 and 43 only lower questions; 40 and 41 any row of the table"
+-- "A row may name only rows with a lower number; 42 and 43 only lower questions; 40 and 41 any row of the table": at a question all rows are read already,
+-- since 5 keeps rows before questions
 abbrev pub limit : Names → ℕ → ℕ → ℕ
 limit Nothing rows questions = 0
 limit Predicates rows questions = predicateLimit
