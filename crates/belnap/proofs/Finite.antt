@@ -11,6 +11,10 @@ use Rattle.belnap.specs.declared.orders.Order.{Order}
 use Rattle.belnap.specs.declared.orders.Order.the-variants.{Truth, Knowledge}
 use Rattle.belnap.specs.Decisions.{grants, denies, claiming, alike, same}
 
+-- true is not false
+pub never : {P : Type 0} → true ≡ false → P
+never e = absurd (let z : _≡_ {A = ℕ} 0 1 = cc in omega arith)
+
 -- a conjunction that is true has both parts true
 pub both-parts : (p q : Bool) → (p && q) ≡ true → (p ≡ true) × (q ≡ true)
 both-parts true q e = (refl, e)

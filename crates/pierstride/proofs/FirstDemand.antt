@@ -9,6 +9,7 @@ use Prim.Native.Nat.{ℕ}
 use native.Mathlib.Omega.{arith}
 use lib.ListN.{length}
 use lib.Dec.{leb, ltb}
+use Rattle.belnap.proofs.Finite.{never}
 use Rattle.table.specs.declared.lookup.Place.the-variants.{At, Missing}
 use Rattle.table.specs.Reading.{Contents, Result, accepted, refused, reading, isAmong}
 use Rattle.table.specs.Lookup.{placeOf}
@@ -33,8 +34,7 @@ DueOf own s (refusing n p) = Due own s n p
 
 never-zero : (own s : List ℕ) (n p : ℕ) → isAmong own 0 ≡ false → Due own s n p → n ≡ 0 → ⊥
 never-zero own s n p o d e =
-    let clash : true ≡ false → ⊥ = λ e. (let z : _≡_ {A = ℕ} 0 1 = cc in omega arith) in
-    ⊎-elim (λ h. clash (sym (rw e at (h .0)))) (λ h. clash (sym (rw e at (h .0)) ∙ o)) d
+    ⊎-elim (λ h. never (sym (rw e at (h .0)))) (λ h. never (sym (rw e at (h .0)) ∙ o)) d
 
 -- a struct that shows what a call says in its two first fields tells it
 tells : {A B : Type 0} (own s : List ℕ) (shows : Said A → B) (refusal place : B → ℕ) → isAmong own 0 ≡ false →

@@ -13,6 +13,7 @@ use borrow.Author.Tests.{lt-leb, le-leb}
 use Rattle.belnap.specs.declared.Decision.{Decision}
 use Rattle.belnap.specs.Decisions.{code, coded}
 use Rattle.belnap.proofs.Codes.{coded-code}
+use Rattle.belnap.proofs.Finite.{never}
 use Rattle.table.specs.Entries.{blank}
 use Rattle.table.specs.Reading.{Contents, accepted, reading, predicates}
 use Rattle.table.proofs.Numbers.{by-order}
@@ -80,9 +81,6 @@ by-reply b (breaking m n) v e f g h =
 -- a reply that is shown under two numbers is none
 pub unlike : {P : Type 0} (v w : Verdict) (k : ℕ) → v ≡ w → v .reply ≡ k → (w .reply ≡ k → ⊥) → P
 unlike v w k q e h = absurd (h (sym (ap (λ (v : Verdict). v .reply) q) ∙ e))
-
-never : {P : Type 0} → true ≡ false → P
-never e = absurd (let z : _≡_ {A = ℕ} 0 1 = cc in omega arith)
 
 -- "A question holds exactly if no request breaks it; otherwise, budget permitting, you show the first request that does, in 01's order."
 module _ (s : List ℕ) (c : Contents) (is : reading s ≡ accepted c) (q b : ℕ) (there : q < length (c .questions)) where

@@ -13,6 +13,7 @@ use lib.Dec.{leb}
 use Rattle.belnap.specs.declared.Decision.{Decision}
 use Rattle.belnap.specs.Decisions.{code, coded}
 use Rattle.belnap.proofs.Codes.{code-coded}
+use Rattle.belnap.proofs.Finite.{never}
 use Rattle.table.specs.Reading.{Contents, Result, accepted, refused, reading, predicates}
 use Rattle.table.proofs.Numbers.{by-order}
 use Rattle.decide.specs.Meaning.{bit, decision}
@@ -149,8 +150,7 @@ possible-learns s r known request more then learns now later i e = go (of-table 
     none-above : (c : Contents) → reading s ≡ accepted c → 4 ≤ i → ⊥
     none-above c is h =
         let small : possibleAnswer s r more then .set < 2 ^ 4 = rw (set-is s r more then later c is) (mask-below (possible (c .rows) more then r)) in
-        let z : _≡_ {A = Bool} true false = sym e ∙ bit-above (possibleAnswer s r more then .set) 4 i small h in
-        let clash : _≡_ {A = ℕ} 0 1 = cc in omega arith
+        never (sym e ∙ bit-above (possibleAnswer s r more then .set) 4 i small h)
 
     go : (c : Contents) → reading s ≡ accepted c → bit (possibleAnswer s r known request .set) i ≡ true
     go c is = by-order i 4 (decision-kept c is) (λ h. absurd (none-above c is h))

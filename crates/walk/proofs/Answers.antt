@@ -8,6 +8,7 @@ use Prim.Native.Nat.{ℕ, zero, suc, _+_, _-_, _^_, _≤_, _<_}
 use native.Mathlib.Omega.{arith}
 use native.Mathlib.Nat.{pow-le-pow-right, zero-add, suc-add}
 use Rattle.belnap.specs.Decisions.{alike}
+use Rattle.belnap.proofs.Finite.{never}
 use Rattle.table.specs.declared.entries.Entry.{Entry}
 use Rattle.table.specs.Reading.{predicates}
 use Rattle.table.proofs.Numbers.{by-order}
@@ -20,9 +21,6 @@ use Rattle.walk.specs.Order.{beforeFrom, comesBefore}
 use Rattle.walk.proofs.Powers.{power-positive, power-twice}
 use Rattle.walk.proofs.Bits.{bit-above, bit-known, bit-with, bit-kept}
 use Rattle.walk.proofs.TruthSets.{filling-truth, known-truth}
-
-never : {P : Type 0} → true ≡ false → P
-never e = absurd (let z : _≡_ {A = ℕ} 0 1 = cc in omega arith)
 
 -- a request agrees with facts on predicates 0 to k-1
 abbrev pub Agrees : ℕ → ℕ → ℕ → Type 0
