@@ -1,7 +1,7 @@
 -- What the sets of rows say (the letter's third demand): the decision under every way of filling the missing facts in is a member, learning a fact
 -- adds none, with nothing unknown only the true decision is left, and no set is empty.
 -- Assumes nothing.
-use mathlib.Core.Path.{_≡_, refl, ap, ap₂, _∙_}
+use mathlib.Core.Path.{_≡_, refl, sym, ap, ap₂, _∙_}
 use mathlib.Core.Bool.{Bool, true, false, cond}
 use mathlib.Core.List.{List}
 use Prim.Native.Nat.{ℕ, _≤_, _<_}
@@ -10,6 +10,7 @@ use lib.ListN.{getD}
 use Rattle.belnap.specs.declared.Decision.{Decision}
 use Rattle.belnap.specs.declared.Decision.the-variants.{U, D, G}
 use Rattle.belnap.specs.Operators.{one, two}
+use Rattle.belnap.proofs.Finite.{never}
 use Rattle.table.specs.declared.kinds.Kind.{Kind}
 use Rattle.table.specs.declared.kinds.Kind.the-variants.{Always, DenyIf, GrantIf, One, Two, Compare, Not, Both}
 use Rattle.table.specs.declared.entries.Entry.{Entry}
@@ -20,42 +21,46 @@ use Rattle.table.proofs.Laws.{used-below}
 use Rattle.decide.specs.Meaning.{bit, decideBy, decides, decision}
 use Rattle.decide.specs.Requests.{Fills, Learns, AllKnown}
 use Rattle.decide.proofs.RowByRow.{side-by-side}
-use Rattle.possible.specs.Sets.{Set, has, Within, single, either, imageOne, imageTwo}
+use Rattle.possible.specs.Sets.{decisions, Set, Within, single, either, imageOne, imageTwo}
 use Rattle.possible.specs.Possible.{factSet, setBy, setOf, possible}
 use Rattle.possible.proofs.Images.{single-has, either-left, either-right, one-has, two-has, one-single, two-single, one-within, two-within}
 
--- a fact's set has what a filling decides
-fact-has : (v : Decision) (p known request o : ℕ) → Fills known request o → has (factSet v p known request) (cond (bit o p) v U) ≡ true
-unfolding factSet
-fact-has v p known request o h = go (bit known p) refl (bit o p)
-  where
-    go : (k : Bool) → bit known p ≡ k → (b : Bool) → has (cond k (single (cond (bit request p) v U)) (either (single U) (single v))) (cond (bit o p) v U) ≡ true
-    go true e b = rw (h p e) (single-has (cond (bit request p) v U))
-    go false e b = from (bit o p)
-      where
-        from : (b : Bool) → has (either (single U) (single v)) (cond b v U) ≡ true
-        from true = either-right (single U) (single v) v (single-has v)
-        from false = either-left (single U) (single v) U (single-has U)
+-- the set of a fact, by whether it is known and whether it is yes; unknown, it has what both ways decide
+abbrev factBy : Decision → Bool → Bool → Set decisions
+factBy v known said = cond known (single (cond said v U)) (either (single U) (single v))
 
-row-has : (k : Kind) (a known request o : ℕ) → Fills known request o → (x y : Decision) (s t : Set) → has s x ≡ true → has t y ≡ true →
-    has (setBy k a known request s t) (decideBy k a o x y) ≡ true
+either-way : (v : Decision) (said later : Bool) → Within (single {F = decisions} (cond said v U)) (factBy v false later)
+either-way v true later = either-right {F = decisions} (single U) (single v)
+either-way v false later = either-left {F = decisions} (single U) (single v)
+
+-- a fact's set has what a filling decides
+fact-has : (v : Decision) (p known request o : ℕ) → Fills known request o → factSet v p known request .has (cond (bit o p) v U) ≡ true
+unfolding factSet
+fact-has v p known request o h = go (bit known p) refl
+  where
+    go : (k : Bool) → bit known p ≡ k → factBy v k (bit request p) .has (cond (bit o p) v U) ≡ true
+    go true e = rw (h p e) (single-has decisions (cond (bit request p) v U))
+    go false e = either-way v (bit o p) (bit request p) (cond (bit o p) v U) (single-has decisions (cond (bit o p) v U))
+
+row-has : (k : Kind) (a known request o : ℕ) → Fills known request o → (x y : Decision) (s t : Set decisions) → s .has x ≡ true → t .has y ≡ true →
+    setBy k a known request s t .has (decideBy k a o x y) ≡ true
 unfolding setBy decideBy
-row-has (Always v) a known request o h x y s t p q = single-has v
+row-has (Always v) a known request o h x y s t p q = single-has decisions v
 row-has DenyIf a known request o h x y s t p q = fact-has D a known request o h
 row-has GrantIf a known request o h x y s t p q = fact-has G a known request o h
-row-has (One op) a known request o h x y s t p q = one-has (one op) s x p
-row-has (Two op) a known request o h x y s t p q = two-has (two op) s t x y p q
+row-has (One op) a known request o h x y s t p q = one-has decisions (one op) s x p
+row-has (Two op) a known request o h x y s t p q = two-has decisions (two op) s t x y p q
 row-has (Compare c) a known request o h x y s t p q = refl
 row-has Not a known request o h x y s t p q = refl
 row-has Both a known request o h x y s t p q = refl
 
-pub filling-member : (rows : List Entry) (known request o r : ℕ) → Fills known request o → has (possible rows known request r) (decision rows o r) ≡ true
+pub filling-member : (rows : List Entry) (known request o r : ℕ) → Fills known request o → possible rows known request r .has (decision rows o r) ≡ true
 filling-member rows known request o r h =
-    side-by-side (λ x s. has s x ≡ true) (decides o) (setOf known request) U (single U) rows refl
+    side-by-side (λ x s. s .has x ≡ true) (decides o) (setOf known request) U (single U) rows refl
     (λ i x y s t p q. row-has (getD rows i blank .kind) (getD rows i blank .a) known request o h x y s t p q) r
 
 -- no set is empty: it has what is decided where every missing fact is as the request says
-pub member-there : (rows : List Entry) (known request r : ℕ) → has (possible rows known request r) (decision rows request r) ≡ true
+pub member-there : (rows : List Entry) (known request r : ℕ) → possible rows known request r .has (decision rows request r) ≡ true
 member-there rows known request r = filling-member rows known request request r (λ p e. refl)
 
 -- facts are learnt while the known ones stand
@@ -63,25 +68,20 @@ fact-within : (v : Decision) (p known request more then : ℕ) → Learns known 
 unfolding factSet
 fact-within v p known request more then h = go (bit known p) refl (bit more p) refl
   where
-    one-of : (b : Bool) → Within (single (cond b v U)) (either (single U) (single v))
-    one-of true = either-right (single U) (single v)
-    one-of false = either-left (single U) (single v)
-
-    go : (k : Bool) → bit known p ≡ k → (m : Bool) → bit more p ≡ m →
-        Within (cond m (single (cond (bit then p) v U)) (either (single U) (single v))) (cond k (single (cond (bit request p) v U)) (either (single U) (single v)))
+    go : (k : Bool) → bit known p ≡ k → (m : Bool) → bit more p ≡ m → Within (factBy v m (bit then p)) (factBy v k (bit request p))
     go true e true d = rw (h p e .1) (λ x q. q)
-    go true e false d = absurd (let z : _≡_ {A = ℕ} 0 1 = cc (h p e .0) in omega arith)
-    go false e true d = one-of (bit then p)
+    go true e false d = never (sym (h p e .0) ∙ d)
+    go false e true d = either-way v (bit then p) (bit request p)
     go false e false d = λ x q. q
 
-row-within : (k : Kind) (a known request more then : ℕ) → Learns known request more then → (s t u v : Set) → Within s u → Within t v →
+row-within : (k : Kind) (a known request more then : ℕ) → Learns known request more then → (s t u v : Set decisions) → Within s u → Within t v →
     Within (setBy k a more then s t) (setBy k a known request u v)
 unfolding setBy
 row-within (Always w) a known request more then h s t u v p q = λ x e. e
 row-within DenyIf a known request more then h s t u v p q = fact-within D a known request more then h
 row-within GrantIf a known request more then h s t u v p q = fact-within G a known request more then h
-row-within (One op) a known request more then h s t u v p q = one-within (one op) s u p
-row-within (Two op) a known request more then h s t u v p q = two-within (two op) s t u v p q
+row-within (One op) a known request more then h s t u v p q = one-within decisions (one op) s u p
+row-within (Two op) a known request more then h s t u v p q = two-within decisions (two op) s t u v p q
 row-within (Compare c) a known request more then h s t u v p q = λ x e. e
 row-within Not a known request more then h s t u v p q = λ x e. e
 row-within Both a known request more then h s t u v p q = λ x e. e
@@ -94,13 +94,13 @@ learning-adds-none rows known request more then r h =
 
 -- nothing that the rows use is unknown
 row-exact : (k : Kind) (a n known request : ℕ) → AllKnown n known → usedBy (formOf k .names) a ≤ n →
-    (x y : Decision) (s t : Set) → s ≡ single x → t ≡ single y → setBy k a known request s t ≡ single (decideBy k a request x y)
+    (x y : Decision) (s t : Set decisions) → s ≡ single x → t ≡ single y → setBy k a known request s t ≡ single (decideBy k a request x y)
 unfolding setBy decideBy factSet
 row-exact (Always w) a n known request h u x y s t p q = refl
 row-exact DenyIf a n known request h u x y s t p q = rw (h a (omega arith))
 row-exact GrantIf a n known request h u x y s t p q = rw (h a (omega arith))
-row-exact (One op) a n known request h u x y s t p q = ap (imageOne (one op)) p ∙ one-single (one op) x
-row-exact (Two op) a n known request h u x y s t p q = ap₂ (imageTwo (two op)) p q ∙ two-single (two op) x y
+row-exact (One op) a n known request h u x y s t p q = ap (imageOne (one op)) p ∙ one-single decisions decisions (one op) x
+row-exact (Two op) a n known request h u x y s t p q = ap₂ (imageTwo (two op)) p q ∙ two-single decisions decisions (two op) x y
 row-exact (Compare c) a n known request h u x y s t p q = refl
 row-exact Not a n known request h u x y s t p q = refl
 row-exact Both a n known request h u x y s t p q = refl
@@ -113,7 +113,7 @@ known-exact rows known request r h =
 
 -- "Predicates from n up may be given and change nothing."
 row-same : (k : Kind) (a n known request more then : ℕ) → ((p : ℕ) → p < n → (bit known p ≡ bit more p) × (bit request p ≡ bit then p)) →
-    usedBy (formOf k .names) a ≤ n → (s t : Set) → setBy k a known request s t ≡ setBy k a more then s t
+    usedBy (formOf k .names) a ≤ n → (s t : Set decisions) → setBy k a known request s t ≡ setBy k a more then s t
 unfolding setBy factSet
 row-same (Always w) a n known request more then h u s t = refl
 row-same DenyIf a n known request more then h u s t = let e = h a (omega arith) in rw (e .0, e .1)
@@ -127,6 +127,6 @@ row-same Both a n known request more then h u s t = refl
 pub beyond-n : (rows : List Entry) (known request more then r : ℕ) → ((p : ℕ) → p < predicates rows → (bit known p ≡ bit more p) × (bit request p ≡ bit then p)) →
     possible rows known request r ≡ possible rows more then r
 beyond-n rows known request more then r h =
-    side-by-side (λ (s t : Set). s ≡ t) (setOf known request) (setOf more then) (single U) (single U) rows refl
+    side-by-side (λ s t. s ≡ t) (setOf known request) (setOf more then) (single U) (single U) rows refl
     (λ i s t u v p q. ap₂ (setBy (getD rows i blank .kind) (getD rows i blank .a) known request) p q
     ∙ row-same (getD rows i blank .kind) (getD rows i blank .a) (predicates rows) known request more then h (used-below rows i) u v) r

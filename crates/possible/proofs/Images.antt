@@ -1,102 +1,122 @@
--- An image holds the result of every choice, and nothing else. Each law is that of `over`, at one operand and at two.
+-- An image holds the result of every choice, and nothing else, over any finite types. Each law is that of `choosing`, at one operand and at two.
 -- Assumes nothing.
-use mathlib.Core.Path.{_≡_, refl, sym, _∙_}
-use mathlib.Core.Bool.{Bool, true, _&&_, _||_, or-false}
-use Rattle.belnap.specs.declared.Decision.{Decision}
-use Rattle.belnap.specs.declared.Decision.the-variants.{U, D, G, C}
-use Rattle.belnap.specs.Decisions.{same}
-use Rattle.belnap.proofs.Finite.{both-parts, or-left, or-right, or-part, same-is, at}
-use Rattle.possible.specs.Sets.{Set, has, Within, those, some, single, either, over, imageOne, imageTwo}
+use mathlib.Core.Path.{_≡_, refl, sym, ap, _∙_}
+use mathlib.Core.Bool.{Bool, true, false, _&&_, _||_}
+use mathlib.Core.List.{List, [], _∷_, foldr}
+use mathlib.Core.Option.{Option, none, some}
+use Prim.Native.Nat.{ℕ, zero, suc}
+use native.Mathlib.Omega.{arith}
+use lib.ListN.{getElem?}
+use borrow.Author.Tests.{eqb-true, eq-eqb}
+use Rattle.belnap.proofs.Finite.{both-parts, or-left, or-right, or-part, never}
+use Rattle.possible.specs.Sets.{Finite, Set, Within, any, single, either, choosing, imageOne, imageTwo}
 
--- membership is the test
-pub has-those : (p : Decision → Bool) (v : Decision) → has (those p) v ≡ p v
-has-those p U = refl
-has-those p D = refl
-has-those p G = refl
-has-those p C = refl
+-- nothing stands in an empty list
+pub none-stands : {P A : Type 0} {x : A} → none ≡ some x → P
+none-stands e = absurd (let z : _≡_ {A = ℕ} 0 1 = cc in omega arith)
 
--- some decision passes a test if one does, and then there is one that does
-pub some-of : (p : Decision → Bool) (x : Decision) → p x ≡ true → some p ≡ true
-some-of p U e = or-left (p U || p D) (p G || p C) (or-left (p U) (p D) e)
-some-of p D e = or-left (p U || p D) (p G || p C) (or-right (p U) (p D) e)
-some-of p G e = or-right (p U || p D) (p G || p C) (or-left (p G) (p C) e)
-some-of p C e = or-right (p U || p D) (p G || p C) (or-right (p G) (p C) e)
+-- any member passes a test if one does, and then there is one that does
+any-listed : {A : Type 0} (p : A → Bool) (l : List A) (i : ℕ) {x : A} → getElem? l i ≡ some x → p x ≡ true →
+    foldr (λ x later. p x || later) false l ≡ true
+any-listed p [] i at e = none-stands at
+any-listed p (y ∷ l) zero at e = or-left (p y) _ (let q : y ≡ _ = cc in rw q e)
+any-listed p (y ∷ l) (suc i) at e = or-right (p y) _ (any-listed p l i at e)
 
-pub which : {P : Type 0} (p : Decision → Bool) → some p ≡ true → ((x : Decision) → p x ≡ true → P) → P
-which p e k = or-part (p U || p D) (p G || p C) e (λ e. or-part (p U) (p D) e (k U) (k D)) (λ e. or-part (p G) (p C) e (k G) (k C))
+any-of : (F : Finite) (p : F .Member → Bool) (x : F .Member) → p x ≡ true → any F p ≡ true
+any-of F p x e = any-listed p (F .members) (F .place x) (F .there x) e
+
+which : {P A : Type 0} (p : A → Bool) (l : List A) → foldr (λ x later. p x || later) false l ≡ true → ((x : A) → p x ≡ true → P) → P
+which p [] e k = never (sym e)
+which p (x ∷ l) e k = or-part (p x) _ e (k x) (λ e. which p l e k)
+
+-- sets with the same members are equal
+pub same-set : {F : Finite} (s t : Set F) → ((v : F .Member) → s .has v ≡ t .has v) → s ≡ t
+same-set s t h = λ i. record { has = λ v. h v i }
+
+each-within : {F : Finite} (s t : Set F) → Within s t → Within t s → s ≡ t
+each-within s t a b = same-set s t (λ v. both-ways (s .has v) (t .has v) (a v) (b v))
+  where
+    both-ways : (p q : Bool) → (p ≡ true → q ≡ true) → (q ≡ true → p ≡ true) → p ≡ q
+    both-ways true q a b = sym (a refl)
+    both-ways false true a b = b refl
+    both-ways false false a b = refl
 
 -- "its one decision"
-pub single-has : (x : Decision) → has (single x) x ≡ true
-single-has = at (λ x. has (single x) x) refl
+pub single-has : (F : Finite) (x : F .Member) → single {F = F} x .has x ≡ true
+single-has F x = eq-eqb (F .place x) (F .place x) refl
 
-pub single-is : (x v : Decision) → has (single x) v ≡ true → x ≡ v
-single-is x v e = same-is x v (sym (has-those (same x) v) ∙ e)
+single-is : (F : Finite) (x v : F .Member) → single {F = F} x .has v ≡ true → x ≡ v
+single-is F x v e =
+    let q = sym (F .there x) ∙ ap (getElem? (F .members)) (eqb-true (F .place x) (F .place v) e) ∙ F .there v in
+    cc
 
 -- "u and its own"
-pub either-left : (s t : Set) → Within s (either s t)
-either-left s t v e = has-those (λ v. has s v || has t v) v ∙ or-left (has s v) (has t v) e
+pub either-left : {F : Finite} (s t : Set F) → Within s (either s t)
+either-left s t v e = or-left (s .has v) (t .has v) e
 
-pub either-right : (s t : Set) → Within t (either s t)
-either-right s t v e = has-those (λ v. has s v || has t v) v ∙ or-right (has s v) (has t v) e
+pub either-right : {F : Finite} (s t : Set F) → Within t (either s t)
+either-right s t v e = or-right (s .has v) (t .has v) e
 
 -- what a choice leads to is there, and nothing else; one choice alone; more choices, each of which leads to more
-over-has : (s : Set) (f : Decision → Set) (x v : Decision) → has s x ≡ true → has (f x) v ≡ true → has (over s f) v ≡ true
-unfolding over
-over-has s f x v a b = has-those (λ v. some (λ x. has s x && has (f x) v)) v ∙ some-of (λ x. has s x && has (f x) v) x (rw (a, b))
+choosing-has : {F G : Finite} (s : Set F) (f : F .Member → Set G) (x : F .Member) (v : G .Member) → s .has x ≡ true → f x .has v ≡ true →
+    choosing s f .has v ≡ true
+unfolding choosing
+choosing-has {F} s f x v a b = any-of F (λ x. s .has x && f x .has v) x (rw (a, b))
 
-over-from : {P : Type 0} (s : Set) (f : Decision → Set) (v : Decision) → has (over s f) v ≡ true →
-    ((x : Decision) → has s x ≡ true → has (f x) v ≡ true → P) → P
-unfolding over
-over-from s f v e k =
-    which (λ x. has s x && has (f x) v) (sym (has-those (λ v. some (λ x. has s x && has (f x) v)) v) ∙ e)
-    (λ x e. let h = both-parts (has s x) (has (f x) v) e in k x (h .0) (h .1))
+choosing-from : {P : Type 0} {F G : Finite} (s : Set F) (f : F .Member → Set G) (v : G .Member) → choosing s f .has v ≡ true →
+    ((x : F .Member) → s .has x ≡ true → f x .has v ≡ true → P) → P
+unfolding choosing
+choosing-from {F} s f v e k = which (λ x. s .has x && f x .has v) (F .members) e (λ x e. let h = both-parts (s .has x) (f x .has v) e in k x (h .0) (h .1))
 
-over-single : (x : Decision) (f : Decision → Set) → over (single x) f ≡ f x
-unfolding over
-over-single U f = simp or-false
-over-single D f = simp or-false
-over-single G f = simp or-false
-over-single C f = refl
+choosing-single : (F : Finite) {G : Finite} (x : F .Member) (f : F .Member → Set G) → choosing (single {F = F} x) f ≡ f x
+choosing-single F x f =
+    let s : Set F = single x in
+    each-within (choosing s f) (f x)
+    (λ v e. choosing-from s f v e (λ y a b. let q = single-is F x y a in rw q b))
+    (λ v e. choosing-has s f x v (single-has F x) e)
 
-over-within : (s t : Set) (f g : Decision → Set) → Within s t → ((x : Decision) → Within (f x) (g x)) → Within (over s f) (over t g)
-over-within s t f g a b v e = over-from s f v e (λ x m r. over-has t g x v (a x m) (b x v r))
+choosing-within : {F G : Finite} (s t : Set F) (f g : F .Member → Set G) → Within s t → ((x : F .Member) → Within (f x) (g x)) →
+    Within (choosing s f) (choosing t g)
+choosing-within s t f g a b v e = choosing-from s f v e (λ x m r. choosing-has t g x v (a x m) (b x v r))
 
--- the result of every choice is in the image
-pub one-has : (f : Decision → Decision) (s : Set) (x : Decision) → has s x ≡ true → has (imageOne f s) (f x) ≡ true
-unfolding imageOne
-one-has f s x a = over-has s (λ x. single (f x)) x (f x) a (single-has (f x))
+module _ {F : Finite} (G : Finite) where
+  -- the result of every choice is in the image
+  pub one-has : (f : F .Member → G .Member) (s : Set F) (x : F .Member) → s .has x ≡ true → imageOne {G = G} f s .has (f x) ≡ true
+  unfolding imageOne
+  one-has f s x a = choosing-has s (λ x. single (f x)) x (f x) a (single-has G (f x))
 
-pub two-has : (f : Decision → Decision → Decision) (s t : Set) (x y : Decision) → has s x ≡ true → has t y ≡ true →
-    has (imageTwo f s t) (f x y) ≡ true
-unfolding imageOne imageTwo
-two-has f s t x y a b = over-has s (λ x. imageOne (f x) t) x (f x y) a (one-has (f x) t y b)
+  pub two-has : (f : F .Member → F .Member → G .Member) (s t : Set F) (x y : F .Member) → s .has x ≡ true → t .has y ≡ true →
+      imageTwo {G = G} f s t .has (f x y) ≡ true
+  unfolding imageTwo
+  two-has f s t x y a b = choosing-has s (λ x. imageOne (f x) t) x (f x y) a (one-has (f x) t y b)
 
--- and each member of the image is the result of a choice
-pub one-from : {P : Type 0} (f : Decision → Decision) (s : Set) (v : Decision) → has (imageOne f s) v ≡ true →
-    ((x : Decision) → has s x ≡ true → f x ≡ v → P) → P
-unfolding imageOne
-one-from f s v e k = over-from s (λ x. single (f x)) v e (λ x a r. k x a (single-is (f x) v r))
+  -- and each member of the image is the result of a choice
+  pub one-from : {P : Type 0} (f : F .Member → G .Member) (s : Set F) (v : G .Member) → imageOne {G = G} f s .has v ≡ true →
+      ((x : F .Member) → s .has x ≡ true → f x ≡ v → P) → P
+  unfolding imageOne
+  one-from f s v e k = choosing-from s (λ x. single (f x)) v e (λ x a r. k x a (single-is G (f x) v r))
 
-pub two-from : {P : Type 0} (f : Decision → Decision → Decision) (s t : Set) (v : Decision) → has (imageTwo f s t) v ≡ true →
-    ((x y : Decision) → has s x ≡ true → has t y ≡ true → f x y ≡ v → P) → P
-unfolding imageOne imageTwo
-two-from f s t v e k = over-from s (λ x. imageOne (f x) t) v e (λ x a r. one-from (f x) t v r (λ y b q. k x y a b q))
+  pub two-from : {P : Type 0} (f : F .Member → F .Member → G .Member) (s t : Set F) (v : G .Member) → imageTwo {G = G} f s t .has v ≡ true →
+      ((x y : F .Member) → s .has x ≡ true → t .has y ≡ true → f x y ≡ v → P) → P
+  unfolding imageTwo
+  two-from f s t v e k = choosing-from s (λ x. imageOne (f x) t) v e (λ x a r. one-from (f x) t v r (λ y b q. k x y a b q))
+
+  -- fewer choices have no other result
+  pub one-within : (f : F .Member → G .Member) (s t : Set F) → Within s t → Within (imageOne {G = G} f s) (imageOne f t)
+  unfolding imageOne
+  one-within f s t a = choosing-within s t (λ x. single (f x)) (λ x. single (f x)) a (λ x v e. e)
+
+  pub two-within : (f : F .Member → F .Member → G .Member) (s t p q : Set F) → Within s p → Within t q →
+      Within (imageTwo {G = G} f s t) (imageTwo f p q)
+  unfolding imageTwo
+  two-within f s t p q a b = choosing-within s p (λ x. imageOne (f x) t) (λ x. imageOne (f x) q) a (λ x. one-within (f x) t q b)
 
 -- one choice has one result
-pub one-single : (f : Decision → Decision) (x : Decision) → imageOne f (single x) ≡ single (f x)
+pub one-single : (F G : Finite) (f : F .Member → G .Member) (x : F .Member) → imageOne f (single {F = F} x) ≡ single {F = G} (f x)
 unfolding imageOne
-one-single f x = over-single x (λ x. single (f x))
+one-single F G f x = choosing-single F x (λ x. single (f x))
 
-pub two-single : (f : Decision → Decision → Decision) (x y : Decision) → imageTwo f (single x) (single y) ≡ single (f x y)
-unfolding imageOne imageTwo
-two-single f x y = over-single x (λ x. imageOne (f x) (single y)) ∙ one-single (f x) y
-
--- fewer choices have no other result
-pub one-within : (f : Decision → Decision) (s t : Set) → Within s t → Within (imageOne f s) (imageOne f t)
-unfolding imageOne
-one-within f s t a = over-within s t (λ x. single (f x)) (λ x. single (f x)) a (λ x v e. e)
-
-pub two-within : (f : Decision → Decision → Decision) (s t p q : Set) → Within s p → Within t q →
-    Within (imageTwo f s t) (imageTwo f p q)
-unfolding imageOne imageTwo
-two-within f s t p q a b = over-within s p (λ x. imageOne (f x) t) (λ x. imageOne (f x) q) a (λ x. one-within (f x) t q b)
+pub two-single : (F G : Finite) (f : F .Member → F .Member → G .Member) (x y : F .Member) →
+    imageTwo f (single {F = F} x) (single y) ≡ single {F = G} (f x y)
+unfolding imageTwo
+two-single F G f x y = choosing-single F x (λ x. imageOne (f x) (single y)) ∙ one-single F G (f x) y

@@ -1,6 +1,7 @@
 -- Laws of sets of decisions, which the layers above cite; below this file, a folder for each function that has a proof of its own.
-pub mod Masks
+pub mod Bits
 pub mod Images
+pub mod Masks
 pub mod Words
 pub mod SetLoop
 pub mod Filling

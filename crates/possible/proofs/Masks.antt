@@ -1,67 +1,81 @@
--- Masks go both ways: each set is the one with its mask, and only the four low bits of a number that is taken for a mask count.
--- A decision counts two to the power of its code, so it is a member exactly if that bit is set.
+-- Masks go both ways: each set is the one with its mask, and only as many low bits of a number that is taken for a mask count as there are members.
+-- A member is there exactly if the bit at its place is set.
 -- Assumes nothing.
-use Prim.Native.Nat.{ℕ, _/_, _%_, _^_, _≤_, _<_}
-use mathlib.Core.Path.{_≡_, refl, sym, ap, _∙_}
+use Prim.Native.Nat.{ℕ, zero, suc, _+_, _*_, _/_, _%_, _^_, _<_}
+use mathlib.Core.Path.{_≡_, refl, ap, _∙_}
 use mathlib.Core.Bool.{Bool, true, false, cond}
+use mathlib.Core.List.{List, [], _∷_, foldr}
+use mathlib.Core.Option.{some}
+use native.Mathlib.Nat.{two-pow-succ}
 use native.Mathlib.Omega.{arith}
+use lib.ListN.{length, getElem?}
 use lib.Dec.{eqb}
 use Rattle.belnap.specs.declared.Decision.{Decision}
 use Rattle.belnap.specs.declared.Decision.the-variants.{U, D, G, C}
 use Rattle.belnap.specs.Decisions.{code}
 use Rattle.decide.specs.Meaning.{bit}
-use Rattle.possible.specs.Sets.{Set, has, single, counts, mask, ofMask}
-use Rattle.possible.proofs.Images.{has-those}
+use Rattle.possible.specs.Sets.{Finite, decisions, Set, single, mask, ofMask}
+use Rattle.possible.proofs.Bits.{bit-zero, bit-suc, bit-low}
+use Rattle.possible.proofs.Images.{none-stands, same-set}
 
-pub of-mask : (s : Set) → ofMask (mask s) ≡ s
-unfolding mask ofMask
-of-mask s = at (s .u) (s .d) (s .g) (s .c)
+-- a mask by its lowest bit and the rest of it
+abbrev onto : Bool → ℕ → ℕ
+onto b later = cond b 1 0 + 2 * later
+
+low-bit : (b : Bool) (later : ℕ) → bit (onto b later) 0 ≡ b
+low-bit b later = bit-zero (onto b later) ∙ at b
   where
-    at : (u d g c : Bool) → ofMask (mask (record { u = u; d = d; g = g; c = c })) ≡ record { u = u; d = d; g = g; c = c }
-    at true true true true = refl
-    at true true true false = refl
-    at true true false true = refl
-    at true true false false = refl
-    at true false true true = refl
-    at true false true false = refl
-    at true false false true = refl
-    at true false false false = refl
-    at false true true true = refl
-    at false true true false = refl
-    at false true false true = refl
-    at false true false false = refl
-    at false false true true = refl
-    at false false true false = refl
-    at false false false true = refl
-    at false false false false = refl
+    at : (b : Bool) → eqb (onto b later % 2) 1 ≡ b
+    at true = let q : (1 + 2 * later) % 2 ≡ 1 = omega arith in rw q
+    at false = let q : (0 + 2 * later) % 2 ≡ 0 = omega arith in rw q
 
-pub mask-below : (s : Set) → mask s < 16
-unfolding mask
-mask-below s = omega (arith, at-most (s .u) 1, at-most (s .d) 2, at-most (s .g) 4, at-most (s .c) 8)
-  where
-    at-most : (b : Bool) (n : ℕ) → cond b n 0 ≤ n
-    at-most true n = omega arith
-    at-most false n = omega arith
+high-bits : (b : Bool) (later : ℕ) → onto b later / 2 ≡ later
+high-bits true later = omega arith
+high-bits false later = omega arith
 
-pub low : (n : ℕ) → ofMask (n % 16) ≡ ofMask n
-unfolding ofMask
-low n = rw (bits n .0, bits n .1, bits n .2, bits n .3)
-  where
-    bits : (n : ℕ) → (n % 16 / 1 % 2 ≡ n / 1 % 2) × (n % 16 / 2 % 2 ≡ n / 2 % 2) × (n % 16 / 4 % 2 ≡ n / 4 % 2) × (n % 16 / 8 % 2 ≡ n / 8 % 2)
-    bits n = (omega arith, omega arith, omega arith, omega arith)
+-- over a list of members: its bits, and how large it is
+module _ {A : Type 0} (has : A → Bool) where
+  abbrev over : List A → ℕ
+  over l = foldr (λ x later. onto (has x) later) 0 l
 
-weight : (v : Decision) → 2 ^ code v ≡ counts v
-weight U = refl
-weight D = refl
-weight G = refl
-weight C = refl
+  bit-listed : (l : List A) (i : ℕ) {x : A} → getElem? l i ≡ some x → bit (over l) i ≡ has x
+  bit-listed [] i at = none-stands at
+  bit-listed (y ∷ l) zero at = low-bit (has y) (over l) ∙ ap has (cc)
+  bit-listed (y ∷ l) (suc i) at = bit-suc (over (y ∷ l)) i ∙ rw (high-bits (has y) (over l)) (bit-listed l i at)
 
-pub member-bit : (s : Set) (v : Decision) → bit (mask s) (code v) ≡ has s v
-unfolding bit ofMask
-member-bit s v =
-    ap (λ (n : ℕ). eqb (mask s / n % 2) 1) (weight v) ∙ sym (has-those (λ x. eqb (mask s / counts x % 2) 1) v) ∙ ap (λ (t : Set). has t v) (of-mask s)
+  over-below : (l : List A) → over l < 2 ^ length l
+  over-below [] = omega arith
+  over-below (x ∷ l) = rw (two-pow-succ (length l)) (at (has x) (over-below l))
+    where
+      at : (b : Bool) → over l < 2 ^ length l → onto b (over l) < 2 ^ length l + 2 ^ length l
+      at true h = omega arith
+      at false h = omega arith
 
-pub single-mask : (v : Decision) → mask (single v) ≡ 2 ^ code v
+place-below : {A : Type 0} (l : List A) (i : ℕ) {x : A} → getElem? l i ≡ some x → i < length l
+place-below [] i at = none-stands at
+place-below (y ∷ l) zero at = omega arith
+place-below (y ∷ l) (suc i) at = let h = place-below l i at in omega arith
+
+module _ (F : Finite) where
+  pub member-bit : (s : Set F) (v : F .Member) → bit (mask F s) (F .place v) ≡ s .has v
+  unfolding mask
+  member-bit s v = bit-listed (s .has) (F .members) (F .place v) (F .there v)
+
+  pub of-mask : (s : Set F) → ofMask F (mask F s) ≡ s
+  unfolding ofMask
+  of-mask s = same-set (ofMask F (mask F s)) s (member-bit s)
+
+  pub mask-below : (s : Set F) → mask F s < 2 ^ length (F .members)
+  unfolding mask
+  mask-below s = over-below (s .has) (F .members)
+
+  pub low : (n : ℕ) → ofMask F (n % 2 ^ length (F .members)) ≡ ofMask F n
+  unfolding ofMask
+  low n = same-set (ofMask F (n % 2 ^ length (F .members))) (ofMask F n)
+      (λ v. bit-low n (length (F .members)) (F .place v) (place-below (F .members) (F .place v) (F .there v)))
+
+-- a decision counts two to the power of its code
+pub single-mask : (v : Decision) → mask decisions (single v) ≡ 2 ^ code v
 unfolding mask
 single-mask U = refl
 single-mask D = refl

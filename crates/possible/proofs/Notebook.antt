@@ -3,7 +3,7 @@
 use Prim.Native.Nat.{ℕ}
 use mathlib.Core.Bool.{cond}
 use mathlib.Core.Path.{_≡_, refl}
-use mathlib.Core.List.{List, [], _∷_, _++_, map}
+use mathlib.Core.List.{List, [], _∷_, foldr, map}
 use Rattle.belnap.specs.declared.Decision.{Decision}
 use Rattle.belnap.specs.declared.Decision.the-variants.{U, D, G, C}
 use Rattle.belnap.specs.Operators.{conflation, openDefault, truthMeet, truthJoin, knowledgeMeet, knowledgeJoin, implication, guard, override}
@@ -12,7 +12,7 @@ use Rattle.table.specs.Entries.{noRoom, bodyStep, stepBy, stepOf}
 use Rattle.table.specs.Reading.{Result, accepted, refused, after, readOn, reading}
 use Rattle.decide.specs.Rows.{values, valueAt}
 use Rattle.decide.specs.Meaning.{bit}
-use Rattle.possible.specs.Sets.{Set, has, ofMask, over, imageOne, imageTwo}
+use Rattle.possible.specs.Sets.{decisions, Set, ofMask, choosing, imageOne, imageTwo}
 use Rattle.possible.specs.Possible.{factSet, setBy, possible}
 
 -- the decisions that the definitions bring, and those that the notebook states
@@ -24,11 +24,8 @@ abbrev is : Decision → Decision → Case
 is x y = record { brought = x ∷ []; stated = y ∷ [] }
 
 -- the members of a set, in the order of their codes
-abbrev member : Set → Decision → List Decision
-member s v = cond (has s v) (v ∷ []) []
-
-abbrev members : Set → List Decision
-members s = member s U ++ (member s D ++ (member s G ++ member s C))
+abbrev members : Set decisions → List Decision
+members s = foldr (λ v later. cond (s .has v) (v ∷ later) later) [] (decisions .members)
 
 -- the decisions that remain possible for a row with nothing known; none where the table is refused
 abbrev remaining : Result → ℕ → List Decision
@@ -44,9 +41,9 @@ cases =
     -- "conflation of u is c; override of c by g, on c, is g; open default of c is g"
     is (conflation U) C ∷ is (override C C G) G ∷ is (openDefault C) G ∷
     -- "`11 00 01 34 00 01`, row 2, nothing known: the set is 6 (d and g)"
-    record { brought = remaining (reading (0x11 ∷ 0x00 ∷ 0x01 ∷ 0x34 ∷ 0x00 ∷ 0x01 ∷ [])) 2; stated = members (ofMask 6) } ∷
-    record { brought = members (ofMask 6); stated = D ∷ G ∷ [] } ∷ []
+    record { brought = remaining (reading (0x11 ∷ 0x00 ∷ 0x01 ∷ 0x34 ∷ 0x00 ∷ 0x01 ∷ [])) 2; stated = members (ofMask decisions 6) } ∷
+    record { brought = members (ofMask decisions 6); stated = D ∷ G ∷ [] } ∷ []
 
 pub right : map (λ c. c .brought) cases ≡ map (λ c. c .stated) cases
-unfolding reading readOn after stepOf stepBy kindOf noRoom bodyStep values valueAt bit factSet setBy over imageOne imageTwo ofMask
+unfolding reading readOn after stepOf stepBy kindOf noRoom bodyStep values valueAt bit factSet setBy choosing imageOne imageTwo ofMask
 right = refl

@@ -12,14 +12,14 @@ use Rattle.table.specs.declared.entries.Entry.{Entry}
 use Rattle.table.specs.Entries.{rowLimit}
 use Rattle.decide.specs.Rows.{valueAt}
 use Rattle.decide.specs.Meaning.{bit}
-use Rattle.possible.specs.Sets.{Set, single, either, imageOne, imageTwo}
+use Rattle.possible.specs.Sets.{decisions, Set, single, either, imageOne, imageTwo}
 
 -- "A predicate row that is known has its one decision; unknown, it has u and its own."
-unfoldable pub factSet : Decision → ℕ → ℕ → ℕ → Set
+unfoldable pub factSet : Decision → ℕ → ℕ → ℕ → Set decisions
 factSet v p known request = cond (bit known p) (single (cond (bit request p) v U)) (either (single U) (single v))
 
 -- "A constant has its one decision." A question is no row: it reads as always u.
-unfoldable pub setBy : Kind → ℕ → ℕ → ℕ → Set → Set → Set
+unfoldable pub setBy : Kind → ℕ → ℕ → ℕ → Set decisions → Set decisions → Set decisions
 setBy (Always v) p known request s t = single v
 setBy DenyIf p known request s t = factSet D p known request
 setBy GrantIf p known request s t = factSet G p known request
@@ -29,13 +29,13 @@ setBy (Compare o) p known request s t = single U
 setBy Not p known request s t = single U
 setBy Both p known request s t = single U
 
-abbrev pub setOf : ℕ → ℕ → Entry → Set → Set → Set
+abbrev pub setOf : ℕ → ℕ → Entry → Set decisions → Set decisions → Set decisions
 setOf known request e s t = setBy (e .kind) (e .a) known request s t
 
 -- the set of row r, with these predicates known and these of them yes
-abbrev pub possible : List Entry → ℕ → ℕ → ℕ → Set
+abbrev pub possible : List Entry → ℕ → ℕ → ℕ → Set decisions
 possible rows known request r = valueAt (setOf known request) (single U) rows r
 
 -- the same of any number: one that no table has room for reads as always u
-abbrev pub possibleIn : List Entry → ℕ → ℕ → ℕ → Set
+abbrev pub possibleIn : List Entry → ℕ → ℕ → ℕ → Set decisions
 possibleIn rows known request r = cond (ltb r rowLimit) (possible rows known request r) (single U)

@@ -1,67 +1,64 @@
--- Sets of decisions: those that remain possible where facts are missing (01, "Missing facts").
-use Prim.Native.Nat.{ℕ, _+_, _/_, _%_}
-use mathlib.Core.Path.{_≡_}
-use mathlib.Core.Bool.{Bool, true, cond, _&&_, _||_}
+-- Sets over a finite type: what remains possible where facts are missing, of decisions and of truths alike (01, "Missing facts").
+use Prim.Native.Nat.{ℕ, _+_, _*_}
+use mathlib.Core.Path.{_≡_, refl}
+use mathlib.Core.Bool.{Bool, true, false, cond, _&&_, _||_}
+use mathlib.Core.List.{List, [], _∷_, foldr}
+use mathlib.Core.Option.{some}
+use lib.ListN.{getElem?}
 use lib.Dec.{eqb}
 use Rattle.belnap.specs.declared.Decision.{Decision}
 use Rattle.belnap.specs.declared.Decision.the-variants.{U, D, G, C}
-use Rattle.belnap.specs.Decisions.{same}
+use Rattle.belnap.specs.Decisions.{code}
+use Rattle.decide.specs.Meaning.{bit}
 
--- which decisions are possible
-pub record Set : Type 0 where
-  pub u : Bool
-  pub d : Bool
-  pub g : Bool
-  pub c : Bool
+-- a finite type: its members in order, and the place of each among them, where it stands
+pub record Finite : Type 1 where
+  pub Member : Type 0
+  pub members : List Member
+  pub place : Member → ℕ
+  pub there : (x : Member) → getElem? members (place x) ≡ some x
 
-abbrev pub has : Set → Decision → Bool
-has s U = s .u
-has s D = s .d
-has s G = s .g
-has s C = s .c
+-- the decisions in the order of their codes; "true and false"
+abbrev pub decisions : Finite
+decisions = record { Member = Decision; members = U ∷ D ∷ G ∷ C ∷ []; place = code; there = elim [ U ↦ refl | D ↦ refl | G ↦ refl | C ↦ refl ] }
+
+abbrev pub truths : Finite
+truths = record { Member = Bool; members = true ∷ false ∷ []; place = λ b. cond b 0 1; there = elim [ true ↦ refl | false ↦ refl ] }
+
+-- which of the members are possible
+pub record Set (F : Finite) : Type 0 where
+  pub has : F .Member → Bool
 
 -- each member of the first is one of the second
-abbrev pub Within : Set → Set → Type 0
-Within s t = (v : Decision) → has s v ≡ true → has t v ≡ true
-
--- the decisions that pass a test; whether some decision passes it
-abbrev pub those : (Decision → Bool) → Set
-those p = record { u = p U; d = p D; g = p G; c = p C }
-
-abbrev pub some : (Decision → Bool) → Bool
-some p = (p U || p D) || (p G || p C)
+abbrev pub Within : {F : Finite} → Set F → Set F → Type 0
+Within {F} s t = (v : F .Member) → s .has v ≡ true → t .has v ≡ true
 
 -- "its one decision"; "u and its own"
-abbrev pub single : Decision → Set
-single x = those (same x)
+abbrev pub single : {F : Finite} → F .Member → Set F
+single {F} x = record { has = λ v. eqb (F .place x) (F .place v) }
 
-abbrev pub either : Set → Set → Set
-either s t = those (λ v. has s v || has t v)
+abbrev pub either : {F : Finite} → Set F → Set F → Set F
+either s t = record { has = λ v. s .has v || t .has v }
 
--- what some choice from a set leads to
-unfoldable pub over : Set → (Decision → Set) → Set
-over s leads = those (λ v. some (λ x. has s x && has (leads x) v))
+-- whether any member passes a test
+abbrev pub any : (F : Finite) → (F .Member → Bool) → Bool
+any F p = foldr (λ x later. p x || later) false (F .members)
 
--- "An operator's set is every result over every choice from its operands' sets, each operand chosen independently."
-unfoldable pub imageOne : (Decision → Decision) → Set → Set
-imageOne f s = over s (λ x. single (f x))
+-- "every result over every choice from its operands' sets, each operand chosen independently": what some choice from a set leads to
+unfoldable pub choosing : {F G : Finite} → Set F → (F .Member → Set G) → Set G
+choosing {F} s leads = record { has = λ v. any F (λ x. s .has x && leads x .has v) }
 
-unfoldable pub imageTwo : (Decision → Decision → Decision) → Set → Set → Set
-imageTwo f s t = over s (λ x. over t (λ y. single (f x y)))
+-- the results of an operator; an order, "not" and "both" are operators with results among the truths: "A question's set … is formed alike."
+unfoldable pub imageOne : {F G : Finite} → (F .Member → G .Member) → Set F → Set G
+imageOne f s = choosing s (λ x. single (f x))
 
--- "a mask in which u counts 1, d 2, g 4, c 8"
-abbrev pub counts : Decision → ℕ
-counts U = 1
-counts D = 2
-counts G = 4
-counts C = 8
+unfoldable pub imageTwo : {F G : Finite} → (F .Member → F .Member → G .Member) → Set F → Set F → Set G
+imageTwo f s t = choosing s (λ x. imageOne (f x) t)
 
-abbrev pub counted : Set → Decision → ℕ
-counted s x = cond (has s x) (counts x) 0
+-- "a mask in which u counts 1, d 2, g 4, c 8": the first member counts 1, each other twice what the one before it counts
+unfoldable pub mask : (F : Finite) → Set F → ℕ
+mask F s = foldr (λ x later. cond (s .has x) 1 0 + 2 * later) 0 (F .members)
 
-unfoldable pub mask : Set → ℕ
-mask s = (counted s U + counted s D) + (counted s G + counted s C)
-
--- the set that a number is the mask of; only its four low bits count
-unfoldable pub ofMask : ℕ → Set
-ofMask n = those (λ x. eqb (n / counts x % 2) 1)
+-- the set that a number is the mask of; only as many low bits count as there are members
+unfoldable pub ofMask : (F : Finite) → ℕ → Set F
+ofMask F n = record { has = λ x. bit n (F .place x) }

@@ -14,12 +14,12 @@ ghost use lib.ListN.{length, getD, take, drop};
 ghost use Rattle.belnap.specs.declared.Decision.the-variants.{U};
 ghost use Rattle.table.specs.Flat.{entriesIn};
 ghost use Rattle.decide.specs.Rows.{values};
-ghost use Rattle.possible.specs.Sets.{single, mask, ofMask};
+ghost use Rattle.possible.specs.Sets.{decisions, single, mask, ofMask};
 ghost use Rattle.possible.specs.Possible.{factSet, setBy, setOf, possibleIn};
 
 // The set of a predicate row.
 fn fact_set(v: Decision, predicate: u8, known: u32, request: u32) -> u8
-    ensures { λ r. ⌜ r ≡ mask (factSet v predicate known request) ⌝ }
+    ensures { λ r. ⌜ r ≡ mask decisions (factSet v predicate known request) ⌝ }
 {
     if decide::bit_of(known, predicate) {
         if decide::bit_of(request, predicate) {
@@ -34,7 +34,7 @@ fn fact_set(v: Decision, predicate: u8, known: u32, request: u32) -> u8
 
 // The set of a row where the rows that it names have the sets s and t.
 fn set_by(kind: Kind, predicate: u8, known: u32, request: u32, s: u8, t: u8) -> u8
-    ensures { λ r. ⌜ r ≡ mask (setBy kind predicate known request (ofMask s) (ofMask t)) ⌝ }
+    ensures { λ r. ⌜ r ≡ mask decisions (setBy kind predicate known request (ofMask decisions s) (ofMask decisions t)) ⌝ }
 {
     match kind {
         Kind::Always(v) => sets::only(v),
@@ -60,7 +60,7 @@ pub fn earlier(masks: &[u8], i: usize, n: u8) -> u8
 // The sets of the rows below a number, from a run of rows, each from those before it, into the front of what is lent.
 pub fn sets_below(rows: &[u8], end: usize, known: u32, request: u32, sets: &mut [u8])
     requires { ⌜ (3 * end ≤ length (now rows)) × (end ≤ length (now sets)) ⌝ }
-    ensures { λ r. ⌜ now (sets .exit) ≡ map mask (values (setOf known request) (single U) (entriesIn (now (rows .entry))) end) ++ drop end (now (sets .entry)) ⌝ }
+    ensures { λ r. ⌜ now (sets .exit) ≡ map (mask decisions) (values (setOf known request) (single U) (entriesIn (now (rows .entry))) end) ++ drop end (now (sets .entry)) ⌝ }
 {
     let mut i = 0;
     while i < end {
@@ -78,7 +78,7 @@ pub fn sets_below(rows: &[u8], end: usize, known: u32, request: u32, sets: &mut 
 
 // The set of row `row` of a table as a mask; a row that no table has room for reads as always u.
 pub fn possible(t: Table, row: usize, known: u32, request: u32) -> u8
-    ensures { λ r. ⌜ r ≡ mask (possibleIn (t .rows) known request row) ⌝ }
+    ensures { λ r. ⌜ r ≡ mask decisions (possibleIn (t .rows) known request row) ⌝ }
 {
     if Table::ROWS <= row {
         return sets::only(Decision::U);

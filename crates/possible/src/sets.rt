@@ -6,11 +6,11 @@ use belnap::operators::TwoRow;
 ghost use mathlib.Core.Path.{_≡_};
 ghost use Prim.Native.Nat.{_*_, _/_, _%_, _^_, _<_};
 ghost use Rattle.belnap.specs.Operators.{one, two};
-ghost use Rattle.possible.specs.Sets.{mask, ofMask, single, either, imageOne, imageTwo};
+ghost use Rattle.possible.specs.Sets.{decisions, mask, ofMask, single, either, imageOne, imageTwo};
 
 // The set of one decision alone.
 pub(crate) fn only(x: Decision) -> u8
-    ensures { λ r. ⌜ r ≡ mask (single x) ⌝ }
+    ensures { λ r. ⌜ r ≡ mask decisions (single x) ⌝ }
 {
     match x {
         Decision::U => 1,
@@ -22,7 +22,7 @@ pub(crate) fn only(x: Decision) -> u8
 
 // The set of u and one decision: a predicate row whose predicate is unknown.
 pub(crate) fn perhaps(x: Decision) -> u8
-    ensures { λ r. ⌜ r ≡ mask (either (single Decision.U) (single x)) ⌝ }
+    ensures { λ r. ⌜ r ≡ mask decisions (either (single Decision.U) (single x)) ⌝ }
 {
     match x {
         Decision::U => 1,
@@ -42,7 +42,7 @@ pub fn digit(word: u64, n: usize) -> u8
 
 // Every result of a one-row operator over every choice from a set.
 pub(crate) fn image_one(op: OneRow, s: u8) -> u8
-    ensures { λ r. ⌜ r ≡ mask (imageOne (one op) (ofMask s)) ⌝ }
+    ensures { λ r. ⌜ r ≡ mask decisions (imageOne (one op) (ofMask decisions s)) ⌝ }
 {
     let i = (s % 16) as usize;
     match op {
@@ -55,7 +55,7 @@ pub(crate) fn image_one(op: OneRow, s: u8) -> u8
 
 // Every result of a two-row operator over every choice from two sets.
 pub(crate) fn image_two(op: TwoRow, s: u8, t: u8) -> u8
-    ensures { λ r. ⌜ r ≡ mask (imageTwo (two op) (ofMask s) (ofMask t)) ⌝ }
+    ensures { λ r. ⌜ r ≡ mask decisions (imageTwo (two op) (ofMask decisions s) (ofMask decisions t)) ⌝ }
 {
     let i = (s % 16) as usize;
     let j = (t % 16) as usize;

@@ -1,7 +1,7 @@
 -- That `sets_below` (src/lib.rt) keeps its promise.
 use Rattle.possible.proofs.SetLoop.{set-turn}
 use Rattle.possible.specs.Possible.{setOf}
-use Rattle.possible.specs.Sets.{single, mask}
+use Rattle.possible.specs.Sets.{decisions, single, mask}
 use Rattle.decide.specs.Rows.{values}
 use Rattle.table.specs.Flat.{entriesIn}
 use Rattle.belnap.specs.declared.Decision.the-variants.{U}
@@ -15,7 +15,9 @@ use Rattle.possible.proofs.sets_below.Statement.{statement}
 use Rattle.possible.proofs.sets_below.Tie as tie
 
 abbrev Inv-loop : tie.InvT-loop
-Inv-loop rows end known request sets₀ i₀ sets i = (i ≤ end) × (length sets ≡ length sets₀) × (sets ≡ map mask (values (setOf known request) (single U) (entriesIn rows) i) ++ drop i sets₀)
+Inv-loop rows end known request sets₀ i₀ sets i =
+    (i ≤ end) × (length sets ≡ length sets₀)
+    × (sets ≡ map (mask decisions) (values (setOf known request) (single U) (entriesIn rows) i) ++ drop i sets₀)
 
 abbrev μ-loop : tie.MeasureT-loop
 μ-loop rows end known request sets₀ i₀ sets i = end - i
@@ -34,14 +36,18 @@ slice-write-sets : tie.Need-slice-write-sets Inv-loop μ-loop
 slice-write-sets c = omega arith
 
 loop-again : tie.Need-loop-again Inv-loop μ-loop
+unfolding mask
 loop-again c =
-    let at = c .before .before .before .before .before .before .before .before .before .before in
+    let second = c .before in
+    let first = second .before .before in
+    let kind = first .before .before .before .before in
+    let at = kind .before .before .before in
     let a = at .before .before .before .args in
-    let v = rw (c .before .before .before .before .before .before .before .kind-in .ensures) at (c .set-by .ensures) in (
+    let turn = set-turn decisions (setOf (a .known) (a .request)) (single U) (a .rows .now) (at .loop .i) (a .sets .now) (at .loop .sets) (at .loop .inv .2) in (
       omega arith,
       length-set (at .loop .sets) (at .loop .i) (c .set-by .result) ∙ at .loop .inv .1,
-      set-turn (a .rows .now) (a .known) (a .request) (at .loop .i) (a .sets .now) (at .loop .sets) (c .before .before .before .earlier .result) (c .before .earlier2 .result) (c .set-by .result)
-          (omega arith) (omega arith) (at .loop .inv .2) (c .before .before .before .earlier .ensures) (c .before .earlier2 .ensures) v,
+      turn (first .earlier .result) (second .earlier2 .result) (c .set-by .result) (omega arith) (omega arith)
+          (first .earlier .ensures) (second .earlier2 .ensures) (rw (kind .kind-in .ensures) at (c .set-by .ensures)),
     )
 
 same-length : tie.Need-same-length Inv-loop μ-loop
