@@ -15,11 +15,12 @@ use Rattle.table.proofs.Numbers.{by-order}
 use Rattle.decide.specs.Meaning.{bit}
 use Rattle.walk.specs.declared.questions.Look.{Look}
 use Rattle.walk.specs.declared.questions.Look.the-variants.{True, False, Open}
-use Rattle.walk.specs.Questions.{truth, hasTruth, onlyTruth, look}
+use Rattle.walk.specs.Questions.{truth, truthSet, look}
 use Rattle.walk.specs.Walk.{Found, nothing, breaking, later, orElse, visit, walkFrom, sees, walk}
 use Rattle.walk.specs.Order.{beforeFrom, comesBefore}
 use Rattle.walk.proofs.Powers.{power-positive, power-twice}
 use Rattle.walk.proofs.Bits.{bit-above, bit-known, bit-with, bit-kept}
+use Rattle.walk.proofs.Looks.{settled, single-settled}
 use Rattle.walk.proofs.TruthSets.{filling-truth, known-truth}
 
 -- a request agrees with facts on predicates 0 to k-1
@@ -96,8 +97,7 @@ before-fewer (suc left) more k o m h e =
     go false false e on = on e
 
 module _ (see : ℕ → ℕ → Look) (true-at : ℕ → Bool) (n : ℕ)
-    (right : (k facts o : ℕ) → see k facts ≡ True → Agrees k facts o → true-at o ≡ true)
-    (wrong : (k facts o : ℕ) → see k facts ≡ False → Agrees k facts o → true-at o ≡ false)
+    (right : (b : Bool) (k facts o : ℕ) → see k facts ≡ cond b True False → Agrees k facts o → true-at o ≡ b)
     (shut : (facts : ℕ) → see n facts ≡ Open → ⊥) where
   -- a breaking request within the facts, and no earlier one
   record Breaks (left k facts m : ℕ) : Type 0 where
@@ -117,7 +117,7 @@ module _ (see : ℕ → ℕ → Look) (true-at : ℕ → Bool) (n : ℕ)
   -- a settled-false visit
   breaks-here : (left k facts : ℕ) → k ≤ n → facts < 2 ^ k → see k facts ≡ False → Breaks left k facts facts
   breaks-here left k facts l h e = record {
-    broken = wrong k facts facts e (λ p l. refl);
+    broken = right false k facts facts e (λ p l. refl);
     small = let g = pow-le-pow-right {n = 2} (omega arith) l in omega arith;
     within = λ p l. refl;
     first = λ o a b. absurd (none-before left k facts o (λ p l. bit-above facts k p h l) b);
@@ -162,7 +162,7 @@ module _ (see : ℕ → ℕ → Look) (true-at : ℕ → Bool) (n : ℕ)
   says zero k facts q h = go (see k facts) refl
     where
       go : (l : Look) → see k facts ≡ l → Says zero k facts (visit l facts (nothing 0))
-      go True e = λ o a. right k facts o e a
+      go True e = λ o a. right true k facts o e a
       go False e = breaks-here zero k facts (omega arith) h e
       go Open e = absurd (shut facts (let r : n ≡ k = omega arith in rw r e))
   says (suc left) k facts q h =
@@ -173,28 +173,9 @@ module _ (see : ℕ → ℕ → Look) (true-at : ℕ → Bool) (n : ℕ)
     where
       go : (l : Look) → see k facts ≡ l → Says (suc left) k facts (orElse (walkFrom see left (k + 1) facts) (walkFrom see left (k + 1) (facts + 2 ^ k))) →
           Says (suc left) k facts (visit l facts (orElse (walkFrom see left (k + 1) facts) (walkFrom see left (k + 1) (facts + 2 ^ k))))
-      go True e both = λ o a. right k facts o e a
+      go True e both = λ o a. right true k facts o e a
       go False e both = breaks-here (suc left) k facts (omega arith) h e
       go Open e both = says-later (suc left) k facts 1 (orElse (walkFrom see left (k + 1) facts) (walkFrom see left (k + 1) (facts + 2 ^ k))) both
-
--- what is settled
-settled-true : (h b r : Bool) → look (record { holds = h; breaks = b }) ≡ True → hasTruth (record { holds = h; breaks = b }) r ≡ true → r ≡ true
-settled-true h b true e q = refl
-settled-true true true false e q = absurd (let z : _≡_ {A = ℕ} 0 1 = cc in omega arith)
-settled-true false true false e q = absurd (let z : _≡_ {A = ℕ} 0 1 = cc in omega arith)
-settled-true true false false e q = q
-settled-true false false false e q = q
-
-settled-false : (h b r : Bool) → look (record { holds = h; breaks = b }) ≡ False → hasTruth (record { holds = h; breaks = b }) r ≡ true → r ≡ false
-settled-false h b false e q = refl
-settled-false true true true e q = absurd (let z : _≡_ {A = ℕ} 0 1 = cc in omega arith)
-settled-false true false true e q = absurd (let z : _≡_ {A = ℕ} 0 1 = cc in omega arith)
-settled-false false true true e q = sym q
-settled-false false false true e q = sym q
-
-only-settled : (b : Bool) → look (onlyTruth b) ≡ Open → ⊥
-only-settled true e = let z : _≡_ {A = ℕ} 0 1 = cc in omega arith
-only-settled false e = let z : _≡_ {A = ℕ} 0 1 = cc in omega arith
 
 -- a request that agrees with the facts fills the missing ones in
 fills : (k facts o : ℕ) → Agrees k facts o → (p : ℕ) → bit (2 ^ k - 1) p ≡ true → bit o p ≡ bit facts p
@@ -212,18 +193,17 @@ module _ (rows questions : List Entry) (j : ℕ) where
   abbrev n : ℕ
   n = predicates rows
 
-  right : (k facts o : ℕ) → see k facts ≡ True → Agrees k facts o → trueAt o ≡ true
-  right k facts o e a = settled-true _ _ (trueAt o) e (filling-truth rows questions (2 ^ k - 1) facts o j (fills k facts o a))
-
-  wrong : (k facts o : ℕ) → see k facts ≡ False → Agrees k facts o → trueAt o ≡ false
-  wrong k facts o e a = settled-false _ _ (trueAt o) e (filling-truth rows questions (2 ^ k - 1) facts o j (fills k facts o a))
+  -- a settled visit sees the truth at every request that agrees with its facts
+  right : (b : Bool) (k facts o : ℕ) → see k facts ≡ cond b True False → Agrees k facts o → trueAt o ≡ b
+  right b k facts o e a =
+      settled (truthSet rows questions (2 ^ k - 1) facts j) b (trueAt o) e (filling-truth rows questions (2 ^ k - 1) facts o j (fills k facts o a))
 
   -- "At k = n every question is settled."
   pub settled-at-n : (facts : ℕ) → see n facts ≡ Open → ⊥
-  settled-at-n facts e = only-settled (trueAt facts) (sym (ap look (known-truth rows questions (2 ^ n - 1) facts j (bit-known n))) ∙ e)
+  settled-at-n facts e = single-settled (trueAt facts) (sym (ap look (known-truth rows questions (2 ^ n - 1) facts j (bit-known n))) ∙ e)
 
-  said : Says see trueAt n right wrong settled-at-n n 0 0 (walk rows questions n j)
-  said = says see trueAt n right wrong settled-at-n n 0 0 (omega arith) (omega arith)
+  said : Says see trueAt n right settled-at-n n 0 0 (walk rows questions n j)
+  said = says see trueAt n right settled-at-n n 0 0 (omega arith) (omega arith)
 
   -- where the walk finds nothing, the question is true at every request
   pub nothing-holds : (c : ℕ) → walk rows questions n j ≡ nothing c → (o : ℕ) → trueAt o ≡ true

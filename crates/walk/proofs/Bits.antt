@@ -4,20 +4,12 @@ use mathlib.Core.Path.{_≡_, sym, ap, _∙_}
 use mathlib.Core.Bool.{true, false}
 use Prim.Native.Nat.{ℕ, zero, suc, _+_, _-_, _/_, _%_, _^_, _≤_, _<_}
 use native.Mathlib.Omega.{arith}
-use native.Mathlib.Nat.{div-one, div-div-eq-div-mul, div-eq-of-lt, pow-succ', pow-le-pow-right, lt-of-lt-of-le, one-mul, two-pow-succ}
+use native.Mathlib.Nat.{div-eq-of-lt, pow-le-pow-right, lt-of-lt-of-le, one-mul, two-pow-succ}
 use lib.Arith.{digits-div}
 use lib.Dec.{eqb}
 use Rattle.decide.specs.Meaning.{bit}
+use Rattle.possible.proofs.Bits.{bit-zero, bit-suc}
 use Rattle.walk.proofs.Powers.{power-positive}
-
--- predicate 0, and the others
-bit-zero : (m : ℕ) → bit m 0 ≡ eqb (m % 2) 1
-unfolding bit
-bit-zero m = ap (λ (x : ℕ). eqb (x % 2) 1) (div-one m)
-
-bit-suc : (m i : ℕ) → bit m (suc i) ≡ bit (m / 2) i
-unfolding bit
-bit-suc m i = ap (λ (x : ℕ). eqb (x % 2) 1) (ap (λ (x : ℕ). m / x) (pow-succ' 2 i) ∙ sym (div-div-eq-div-mul m 2 (2 ^ i)))
 
 -- facts on predicates below k say no of every other
 pub bit-above : (m k i : ℕ) → m < 2 ^ k → k ≤ i → bit m i ≡ false

@@ -1,7 +1,7 @@
 -- Laws of questions and of the walk; below this file, a folder for each function that has a proof of its own.
 pub mod Powers
 pub mod Bits
-pub mod TruthMasks
+pub mod Looks
 pub mod QuestionLoop
 pub mod Replies
 pub mod TruthSets

@@ -5,15 +5,16 @@ use belnap::orders::Order;
 use table::entries;
 use table::flat;
 use table::kinds::Kind;
-ghost use mathlib.Core.Bool.{true};
+ghost use mathlib.Core.Bool.{true, not, _&&_};
 ghost use mathlib.Core.Path.{_≡_};
 ghost use mathlib.Core.List.{_++_, map};
 ghost use Prim.Native.Nat.{_+_, _*_, _≤_, _<_, max};
 ghost use lib.ListN.{length, drop};
 ghost use Rattle.table.specs.Flat.{entriesIn};
 ghost use Rattle.decide.specs.Rows.{values};
-ghost use Rattle.possible.specs.Sets.{ofMask};
-ghost use Rattle.walk.specs.Questions.{compareSet, notSet, bothSet, truthSetBy, asksSet, onlyTruth, look, topBy, top, maskAt, truthMask, truthsOf};
+ghost use Rattle.belnap.specs.Orders.{atOrBelow};
+ghost use Rattle.possible.specs.Sets.{decisions, truths, single, imageOne, imageTwo, mask, ofMask};
+ghost use Rattle.walk.specs.Questions.{truthSetBy, asksSet, look, topBy, top, maskAt};
 
 // Settled true, settled false, or not settled.
 pub enum Look {
@@ -23,7 +24,7 @@ pub enum Look {
 }
 
 pub(crate) fn look_of(t: u8) -> Look
-    ensures { λ r. ⌜ r ≡ look (truthsOf t) ⌝ }
+    ensures { λ r. ⌜ r ≡ look (ofMask truths t) ⌝ }
 {
     let m = t % 4;
     match m {
@@ -35,7 +36,7 @@ pub(crate) fn look_of(t: u8) -> Look
 
 // Every outcome of a comparison over every choice from two sets of decisions.
 fn compare_set(order: Order, s: u8, t: u8) -> u8
-    ensures { λ r. ⌜ r ≡ truthMask (compareSet order (ofMask s) (ofMask t)) ⌝ }
+    ensures { λ r. ⌜ r ≡ mask truths (imageTwo (atOrBelow order) (ofMask decisions s) (ofMask decisions t)) ⌝ }
 {
     let i = (s % 16) as usize;
     let j = (t % 16) as usize;
@@ -47,7 +48,7 @@ fn compare_set(order: Order, s: u8, t: u8) -> u8
 
 // "Not" over a set of truths.
 fn not_set(x: u8) -> u8
-    ensures { λ r. ⌜ r ≡ truthMask (notSet (truthsOf x)) ⌝ }
+    ensures { λ r. ⌜ r ≡ mask truths (imageOne not (ofMask truths x)) ⌝ }
 {
     let i = (x % 4) as usize;
     possible::sets::digit(tables::NOT, i)
@@ -55,16 +56,16 @@ fn not_set(x: u8) -> u8
 
 // "Both" over two sets of truths.
 fn both_set(x: u8, y: u8) -> u8
-    ensures { λ r. ⌜ r ≡ truthMask (bothSet (truthsOf x) (truthsOf y)) ⌝ }
+    ensures { λ r. ⌜ r ≡ mask truths (imageTwo _&&_ (ofMask truths x) (ofMask truths y)) ⌝ }
 {
     let i = (x % 4) as usize;
     let j = (y % 4) as usize;
-    possible::sets::digit(tables::BOTH, 4 * i + j)
+    possible::sets::digit(tables::BOTH[i], j)
 }
 
 // The set of a question where the rows that it names have the sets s and t, and the questions the sets x and y.
 fn truth_by(kind: Kind, s: u8, t: u8, x: u8, y: u8) -> u8
-    ensures { λ r. ⌜ r ≡ truthMask (truthSetBy kind (ofMask s) (ofMask t) (truthsOf x) (truthsOf y)) ⌝ }
+    ensures { λ r. ⌜ r ≡ mask truths (truthSetBy kind (ofMask decisions s) (ofMask decisions t) (ofMask truths x) (ofMask truths y)) ⌝ }
 {
     match kind {
         Kind::Compare(order) => compare_set(order, s, t),
@@ -79,9 +80,9 @@ fn truth_by(kind: Kind, s: u8, t: u8, x: u8, y: u8) -> u8
 }
 
 // The sets of the questions below a number, from a run of questions and the sets of the rows below `top`, into the front of what is lent.
-pub(crate) fn truths_below(questions: &[u8], end: usize, sets: &[u8], top: usize, truths: &mut [u8])
-    requires { ⌜ (3 * end ≤ length (now questions)) × (top ≤ length (now sets)) × (end ≤ length (now truths)) ⌝ }
-    ensures { λ r. ⌜ now (truths .exit) ≡ map truthMask (values (asksSet (maskAt (now (sets .entry)) top)) (onlyTruth true) (entriesIn (now (questions .entry))) end) ++ drop end (now (truths .entry)) ⌝ }
+pub(crate) fn truths_below(questions: &[u8], end: usize, sets: &[u8], top: usize, masks: &mut [u8])
+    requires { ⌜ (3 * end ≤ length (now questions)) × (top ≤ length (now sets)) × (end ≤ length (now masks)) ⌝ }
+    ensures { λ r. ⌜ now (masks .exit) ≡ map (mask truths) (values (asksSet (maskAt (now (sets .entry)) top)) (single true) (entriesIn (now (questions .entry))) end) ++ drop end (now (masks .entry)) ⌝ }
 {
     let mut i = 0;
     while i < end {
@@ -91,10 +92,10 @@ pub(crate) fn truths_below(questions: &[u8], end: usize, sets: &[u8], top: usize
         let b = questions[at + 2];
         let s = possible::earlier(sets, top, a);
         let t = possible::earlier(sets, top, b);
-        let x = possible::earlier(truths, i, a);
-        let y = possible::earlier(truths, i, b);
+        let x = possible::earlier(masks, i, a);
+        let y = possible::earlier(masks, i, b);
         let v = truth_by(kind, s, t, x, y);
-        truths[i] = v;
+        masks[i] = v;
         i += 1;
     }
 }

@@ -1,5 +1,5 @@
 // The sets of truths that comparisons, "not" and "both" bring, as words of hexadecimal digits: digit n, from the low end, is for the operand n.
-// A comparison has sixteen words: word m is for the first operand's set with mask m. "Both" has its digit for x and y at 4 x + y.
+// A comparison has sixteen words and "both" has four: word m is for the first operand's set with mask m.
 pub const TRUTH_ORDER: [u64; 16] = [
     0x0000000000000000,
     0x3333323233113210,
@@ -40,4 +40,4 @@ pub const KNOWLEDGE_ORDER: [u64; 16] = [
 
 pub const NOT: u64 = 0x3120;
 
-pub const BOTH: u64 = 0x3230222032100000;
+pub const BOTH: [u64; 4] = [0x0000, 0x3210, 0x2220, 0x3230];

@@ -1,14 +1,17 @@
 -- That `questions::both_set` (src/questions.rt) keeps its promise.
-use Rattle.walk.proofs.TruthMasks.{in-both}
-use Rattle.walk.specs.Questions.{truthMask, truthsOf, bothSet}
+use Rattle.decide.specs.Meaning.{bit}
+use Rattle.possible.specs.Sets.{truths, choosing, imageOne, imageTwo, mask, ofMask}
+use Rattle.possible.proofs.Words.{in-words}
+use native.Mathlib.Omega.{arith}
+use mathlib.Core.Bool.{_&&_}
 use mathlib.Core.Path.{_∙_}
 use borrow.Author.Needs.{needs}
 use Rattle.walk.proofs.questions.both_set.Statement.{statement}
 use Rattle.walk.proofs.questions.both_set.Tie as tie
 
 returns : tie.Need-returns
-unfolding truthMask truthsOf bothSet
-returns c = c .digit .ensures ∙ in-both (c .before .args .x) (c .before .args .y)
+unfolding mask ofMask bit choosing imageOne imageTwo
+returns c = let a = c .before .args in c .digit .ensures ∙ in-words truths truths (omega arith) (imageTwo _&&_) (a .x) (a .y)
 
 pub both-set-spec : {M : Type 1} → statement M
 both-set-spec = tie.close (tie.spec (λ c. search needs) (λ c. search needs) (λ c. search needs) (λ c. search needs) (λ c κs. search needs) returns)

@@ -1,20 +1,26 @@
 -- That `questions::compare_set` (src/questions.rt) keeps its promise.
-use Rattle.walk.proofs.TruthMasks.{in-compare}
-use Rattle.walk.specs.Questions.{truthMask, compareSet}
-use Rattle.possible.specs.Sets.{ofMask}
 use Rattle.belnap.specs.declared.orders.Order.the-variants.{Truth, Knowledge}
+use Rattle.belnap.specs.Orders.{atOrBelow}
+use Rattle.decide.specs.Meaning.{bit}
+use Rattle.possible.specs.Sets.{decisions, truths, choosing, imageOne, imageTwo, mask, ofMask}
+use Rattle.possible.proofs.Words.{in-words}
+use native.Mathlib.Omega.{arith}
 use mathlib.Core.Path.{_∙_}
 use borrow.Author.Needs.{needs}
 use Rattle.walk.proofs.questions.compare_set.Statement.{statement}
 use Rattle.walk.proofs.questions.compare_set.Tie as tie
 
 returns : tie.Need-returns
-unfolding truthMask compareSet ofMask
-returns c = rw (c .before .enum-told .given .1) (c .digit .ensures ∙ in-compare Truth (c .before .before .before .args .s) (c .before .before .before .args .t))
+unfolding mask ofMask bit choosing imageOne imageTwo
+returns c =
+    let a = c .before .before .before .args in
+    rw (c .before .enum-told .given .1) (c .digit .ensures ∙ in-words decisions truths (omega arith) (imageTwo (atOrBelow Truth)) (a .s) (a .t))
 
 returns-2 : tie.Need-returns-2
-unfolding truthMask compareSet ofMask
-returns-2 c = rw (c .before .enum-told2 .given .1) (c .digit2 .ensures ∙ in-compare Knowledge (c .before .before .before .args .s) (c .before .before .before .args .t))
+unfolding mask ofMask bit choosing imageOne imageTwo
+returns-2 c =
+    let a = c .before .before .before .args in
+    rw (c .before .enum-told2 .given .1) (c .digit2 .ensures ∙ in-words decisions truths (omega arith) (imageTwo (atOrBelow Knowledge)) (a .s) (a .t))
 
 pub compare-set-spec : {M : Type 1} → statement M
 compare-set-spec =

@@ -1,6 +1,7 @@
 -- That `questions::look_of` (src/questions.rt) keeps its promise.
-use Rattle.walk.proofs.TruthMasks.{look-at, look-open}
-use Rattle.walk.specs.Questions.{truthsOf}
+use Rattle.walk.proofs.Looks.{look-at, look-open}
+use Rattle.decide.specs.Meaning.{bit}
+use Rattle.possible.specs.Sets.{ofMask}
 use native.Mathlib.Omega.{arith}
 use Prim.Native.Nat.{_%_}
 use mathlib.Core.Path.{refl, sym, _∙_}
@@ -8,11 +9,11 @@ use Rattle.walk.proofs.questions.look_of.Statement.{statement}
 use Rattle.walk.proofs.questions.look_of.Tie as tie
 
 returns : tie.Need-returns
-unfolding truthsOf
+unfolding ofMask bit
 returns c = sym (look-at (c .before .args .t) 1 (c .match .keys1))
 
 returns-2 : tie.Need-returns-2
-unfolding truthsOf
+unfolding ofMask bit
 returns-2 c = sym (look-at (c .before .args .t) 2 (c .match .keys2))
 
 returns-3 : tie.Need-returns-3

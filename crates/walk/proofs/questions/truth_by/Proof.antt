@@ -1,5 +1,6 @@
 -- That `questions::truth_by` (src/questions.rt) keeps its promise.
-use Rattle.walk.specs.Questions.{truthSetBy, truthMask}
+use Rattle.possible.specs.Sets.{mask}
+use Rattle.walk.specs.Questions.{truthSetBy}
 use borrow.Author.Needs.{needs}
 use Rattle.walk.proofs.questions.truth_by.Statement.{statement}
 use Rattle.walk.proofs.questions.truth_by.Tie as tie
@@ -17,23 +18,23 @@ unfolding truthSetBy
 returns-3 c = rw (c .before .enum-told2 .given .1) (c .both-set .ensures)
 
 returns-4 : tie.Need-returns-4
-unfolding truthSetBy truthMask
+unfolding truthSetBy mask
 returns-4 c = rw (c .enum-told3 .given .1)
 
 returns-5 : tie.Need-returns-5
-unfolding truthSetBy truthMask
+unfolding truthSetBy mask
 returns-5 c = rw (c .enum-told4 .given .1)
 
 returns-6 : tie.Need-returns-6
-unfolding truthSetBy truthMask
+unfolding truthSetBy mask
 returns-6 c = rw (c .enum-told5 .given .1)
 
 returns-7 : tie.Need-returns-7
-unfolding truthSetBy truthMask
+unfolding truthSetBy mask
 returns-7 c = rw (c .enum-told6 .given .1)
 
 returns-8 : tie.Need-returns-8
-unfolding truthSetBy truthMask
+unfolding truthSetBy mask
 returns-8 c = rw (c .enum-told7 .given .1)
 
 pub truth-by-spec : {M : Type 1} → statement M

@@ -1,6 +1,7 @@
 -- That `questions::truths_below` (src/questions.rt) keeps its promise.
-use Rattle.walk.proofs.QuestionLoop.{truth-turn}
-use Rattle.walk.specs.Questions.{onlyTruth, asksSet, truthMask, maskAt}
+use Rattle.possible.specs.Sets.{truths, single, mask}
+use Rattle.possible.proofs.SetLoop.{set-turn}
+use Rattle.walk.specs.Questions.{asksSet, maskAt}
 use Rattle.decide.specs.Rows.{values}
 use Rattle.table.specs.Flat.{entriesIn}
 use lib.ListN.{length, drop, length-set}
@@ -14,10 +15,12 @@ use Rattle.walk.proofs.questions.truths_below.Statement.{statement}
 use Rattle.walk.proofs.questions.truths_below.Tie as tie
 
 abbrev Inv-loop : tie.InvT-loop
-Inv-loop questions end sets top truths₀ i₀ truths i = (i ≤ end) × (length truths ≡ length truths₀) × (truths ≡ map truthMask (values (asksSet (maskAt sets top)) (onlyTruth true) (entriesIn questions) i) ++ drop i truths₀)
+Inv-loop questions end sets top masks₀ i₀ masks i =
+    (i ≤ end) × (length masks ≡ length masks₀)
+    × (masks ≡ map (mask truths) (values (asksSet (maskAt sets top)) (single true) (entriesIn questions) i) ++ drop i masks₀)
 
 abbrev μ-loop : tie.MeasureT-loop
-μ-loop questions end sets top truths₀ i₀ truths i = end - i
+μ-loop questions end sets top masks₀ i₀ masks i = end - i
 
 loop-holds : tie.Need-loop-holds Inv-loop μ-loop
 unfolding values
@@ -29,19 +32,28 @@ earlier-requires-3 c κs = omega arith
 earlier-requires-4 : tie.Need-earlier-requires-4 Inv-loop μ-loop
 earlier-requires-4 c κs = omega arith
 
-slice-write-truths : tie.Need-slice-write-truths Inv-loop μ-loop
-slice-write-truths c = omega arith
+slice-write-masks : tie.Need-slice-write-masks Inv-loop μ-loop
+slice-write-masks c = omega arith
 
 loop-again : tie.Need-loop-again Inv-loop μ-loop
+unfolding mask
 loop-again c =
-    let at = c .before .before .before .before .before .before .before .before .before .before .before .before in
-    let a = c .before .before .before .before .before .before .before .before .before .before .before .before .before .before .before .before .args in
-    let v = rw (c .before .before .before .before .before .before .before .before .before .kind-in .ensures) at (c .truth-by .ensures) in (
+    let second = c .before in
+    let first = second .before .before in
+    let b = first .before .before in
+    let a = b .before in
+    let kind = a .before .before .before in
+    let inside = kind .before .before in
+    let at = inside .before in
+    let start = at .before .before .before .before in
+    let args = start .args in
+    let sets = maskAt (args .sets .now) (args .top) in
+    let turn = set-turn truths (asksSet sets) (single true) (args .questions .now) (at .loop .i) (args .masks .now) (at .loop .masks) (at .loop .inv .2) in (
       omega arith,
-      length-set (at .loop .truths) (at .loop .i) (c .truth-by .result) ∙ at .loop .inv .1,
-      truth-turn (a .questions .now) (a .sets .now) (a .top) (at .loop .i) (a .truths .now) (at .loop .truths)
-          (c .before .before .before .before .before .before .earlier .result) (c .before .before .before .before .before .earlier2 .result) (c .before .before .before .earlier3 .result) (c .before .earlier4 .result) (c .truth-by .result)
-          (omega arith) (omega arith) (at .loop .inv .2) (c .before .before .before .before .before .before .earlier .ensures) (c .before .before .before .before .before .earlier2 .ensures) (c .before .before .before .earlier3 .ensures) (c .before .earlier4 .ensures) v,
+      length-set (at .loop .masks) (at .loop .i) (c .truth-by .result) ∙ at .loop .inv .1,
+      turn (first .earlier3 .result) (second .earlier4 .result) (c .truth-by .result)
+          (omega (arith, start .pre .0, inside .loop-test)) (omega (arith, start .pre .2, inside .loop-test))
+          (first .earlier3 .ensures) (second .earlier4 .ensures) (rw (kind .kind-in .ensures, a .earlier .ensures, b .earlier2 .ensures) at (c .truth-by .ensures)),
     )
 
 same-length : tie.Need-same-length Inv-loop μ-loop
@@ -71,7 +83,7 @@ truths-below-spec =
     earlier-requires-3
     earlier-requires-4
     (λ c κs. search needs)
-    slice-write-truths
+    slice-write-masks
     (λ c. search needs)
     (λ c. search needs)
     loop-again

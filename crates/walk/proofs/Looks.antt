@@ -1,0 +1,45 @@
+-- What a visit sees of a set of truths: where it is settled, its one member; and by the mask.
+-- Assumes nothing.
+use Prim.Native.Nat.{ℕ, zero, suc, _%_, _<_}
+use mathlib.Core.Path.{_≡_, refl, sym, ap, _∙_}
+use mathlib.Core.Bool.{Bool, true, false, cond}
+use native.Mathlib.Omega.{arith}
+use Rattle.decide.specs.Meaning.{bit}
+use Rattle.possible.specs.Sets.{truths, Set, single, ofMask}
+use Rattle.possible.proofs.Masks.{low}
+use Rattle.walk.specs.declared.questions.Look.{Look}
+use Rattle.walk.specs.declared.questions.Look.the-variants.{True, False, Open}
+use Rattle.walk.specs.Questions.{look}
+
+-- a set that is seen settled has no other member
+pub settled : (t : Set truths) (b r : Bool) → look t ≡ cond b True False → t .has r ≡ true → r ≡ b
+settled t true true e q = refl
+settled t true false e q = absurd (at (t .has true) (rw q at e))
+  where
+    at : (h : Bool) → cond h Open False ≡ True → ⊥
+    at true e = let z : _≡_ {A = ℕ} 0 1 = cc in omega arith
+    at false e = let z : _≡_ {A = ℕ} 0 1 = cc in omega arith
+settled t false true e q = absurd (at (t .has false) (rw q at e))
+  where
+    at : (h : Bool) → cond h Open True ≡ False → ⊥
+    at true e = let z : _≡_ {A = ℕ} 0 1 = cc in omega arith
+    at false e = let z : _≡_ {A = ℕ} 0 1 = cc in omega arith
+settled t false false e q = refl
+
+-- and one truth alone is settled
+pub single-settled : (b : Bool) → look (single b) ≡ Open → ⊥
+single-settled true e = let z : _≡_ {A = ℕ} 0 1 = cc in omega arith
+single-settled false e = let z : _≡_ {A = ℕ} 0 1 = cc in omega arith
+
+-- what is seen goes by the two low bits of the mask
+pub look-at : (n m : ℕ) → n % 4 ≡ m → look (ofMask truths n) ≡ look (ofMask truths m)
+look-at n m e = ap look (sym (low truths n) ∙ ap (ofMask truths) e)
+
+-- a set of truths with both members, or none, is not settled
+pub look-open : (n : ℕ) → n < 4 → (n ≡ 1 → ⊥) → (n ≡ 2 → ⊥) → look (ofMask truths n) ≡ Open
+unfolding ofMask bit
+look-open zero h p q = refl
+look-open (suc zero) h p q = absurd (p refl)
+look-open (suc (suc zero)) h p q = absurd (q refl)
+look-open (suc (suc (suc zero))) h p q = refl
+look-open (suc (suc (suc (suc n)))) h p q = absurd (omega arith)
