@@ -20,7 +20,7 @@ use Rattle.table.proofs.Opening.{Opened, Turned}
 use Rattle.table.proofs.Padding.{padded-at}
 use Rattle.decide.specs.Meaning.{decides, decision, decisionIn}
 use Rattle.decide.proofs.RowByRow.{same-value}
-use Rattle.possible.specs.Sets.{single, mask}
+use Rattle.possible.specs.Sets.{decisions, single, mask}
 use Rattle.possible.specs.Possible.{setOf, possible, possibleIn}
 use Rattle.walk.specs.declared.Reply.{Reply}
 use Rattle.walk.specs.Walk.{walk, replyOf}
@@ -106,11 +106,11 @@ module _ {s : List ℕ} {got : Reading} (o : Opened s got) where
     pub possible-refuses : (why ≡ 0 → ⊥) → remainingOf (refusing why 0) ≡ possibleAnswer s at known request
     possible-refuses h = sym (ap remainingOf (possible-said ∙ wrong why _ h))
 
-    pub possible-answers : why ≡ 0 → (n : ℕ) → n ≡ mask (possibleIn (got .table .rows) known request at) →
+    pub possible-answers : why ≡ 0 → (n : ℕ) → n ≡ mask decisions (possibleIn (got .table .rows) known request at) →
         _≡_ {A = Remaining} (record { refusal = 0; place = 0; set = n }) (possibleAnswer s at known request)
     possible-answers e n q =
         let same = same-value (setOf known request) (single U) (got .table .rows) (o .contents .rows) at (λ i k. rows-at i) in
-        let d : n ≡ mask (possible (o .contents .rows) known request at) = q ∙ rw (lt-ltb at rowLimit (row-there at why bad w e)) (ap mask same) in
+        let d : n ≡ mask decisions (possible (o .contents .rows) known request at) = q ∙ rw (lt-ltb at rowLimit (row-there at why bad w e)) (ap (mask decisions) same) in
         rw d (sym (ap remainingOf (possible-said ∙ right why _ e)))
 
   module _ (at budget why : ℕ) (w : why ≡ askedWrongly (leb (got .table .asked) at) false) where

@@ -18,7 +18,7 @@ use Rattle.table.specs.Reading.{Contents, Result, accepted, refused, reading, p
 use Rattle.table.proofs.Numbers.{by-order}
 use Rattle.decide.specs.Meaning.{bit, decision}
 use Rattle.decide.specs.Requests.{Fills, Learns, AllKnown}
-use Rattle.possible.specs.Sets.{has, mask}
+use Rattle.possible.specs.Sets.{decisions, mask}
 use Rattle.possible.specs.Possible.{possible}
 use Rattle.possible.proofs.Masks.{mask-below, member-bit, single-mask}
 use Rattle.possible.proofs.Filling.{filling-member, learning-adds-none, known-exact}
@@ -103,11 +103,11 @@ module _ (s : List ℕ) (r known request : ℕ) (left : possibleAnswer s r known
   set = possibleAnswer s r known request .set
 
   module _ (c : Contents) (is : reading s ≡ accepted c) where
-    set-is : set ≡ mask (possible (c .rows) known request r)
+    set-is : set ≡ mask decisions (possible (c .rows) known request r)
     set-is = ap (λ (a : Remaining). a .set) (remained s c is r known request left .1)
 
-    set-has : (v : Decision) → bit set (code v) ≡ has (possible (c .rows) known request r) v
-    set-has v = ap (λ (n : ℕ). bit n (code v)) set-is ∙ member-bit (possible (c .rows) known request r) v
+    set-has : (v : Decision) → bit set (code v) ≡ possible (c .rows) known request r .has v
+    set-has v = ap (λ (n : ℕ). bit n (code v)) set-is ∙ member-bit decisions (possible (c .rows) known request r) v
 
   -- "the decision under every way of filling them in is among those shown"
   pub possible-contains : (o : ℕ) → Fills known request o → decideAnswer s r o .refusal ≡ 0 → bit set (decideAnswer s r o .code) ≡ true
@@ -126,7 +126,7 @@ module _ (s : List ℕ) (r known request : ℕ) (left : possibleAnswer s r known
       let v = decision (c .rows) request r in
       let d = decides s c is r request (w .there) (request-good (beyond known) (beyond request) (knownBelow 24 known request) (w .good)) in
       let n : readAnswer s .predicates ≡ predicates (c .rows) = rw is in
-      rw d (refl, set-is c is ∙ ap mask (known-exact (c .rows) known request r (rw n at all)) ∙ single-mask v)
+      rw d (refl, set-is c is ∙ ap (mask decisions) (known-exact (c .rows) known request r (rw n at all)) ∙ single-mask v)
     where
       request-good : (a b d : Bool) → ((a || b) || not d) ≡ false → b ≡ false
       request-good true b d e = absurd (let z : _≡_ {A = ℕ} 0 1 = cc in omega arith)
@@ -149,7 +149,7 @@ possible-learns s r known request more then learns now later i e = go (of-table 
     -- a set's mask has no bit from 4 up
     none-above : (c : Contents) → reading s ≡ accepted c → 4 ≤ i → ⊥
     none-above c is h =
-        let small : possibleAnswer s r more then .set < 2 ^ 4 = rw (set-is s r more then later c is) (mask-below (possible (c .rows) more then r)) in
+        let small : possibleAnswer s r more then .set < 2 ^ 4 = rw (set-is s r more then later c is) (mask-below decisions (possible (c .rows) more then r)) in
         never (sym e ∙ bit-above (possibleAnswer s r more then .set) 4 i small h)
 
     go : (c : Contents) → reading s ≡ accepted c → bit (possibleAnswer s r known request .set) i ≡ true

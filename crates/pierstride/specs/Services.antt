@@ -14,7 +14,7 @@ use Rattle.table.specs.declared.lookup.Place.the-variants.{At, Missing}
 use Rattle.table.specs.Reading.{Contents, Result, accepted, refused, reading, predicates}
 use Rattle.table.specs.Lookup.{placeOf}
 use Rattle.decide.specs.Meaning.{decision}
-use Rattle.possible.specs.Sets.{Set, mask}
+use Rattle.possible.specs.Sets.{decisions, Set, mask}
 use Rattle.possible.specs.Possible.{possible}
 use Rattle.walk.specs.declared.Reply.{Reply}
 use Rattle.walk.specs.declared.Reply.the-variants.{Holds, Fails, Unfinished}
@@ -78,11 +78,11 @@ abbrev pub decideAnswer : List ℕ → ℕ → ℕ → Decided
 decideAnswer s r request = decidedOf (saysDecide s r request)
 
 -- "It answers with a set of decisions, a mask in which u counts 1, d 2, g 4, c 8."
-abbrev pub remainingOf : Said Set → Remaining
-remainingOf (answered set) = record { refusal = 0; place = 0; set = mask set }
+abbrev pub remainingOf : Said (Set decisions) → Remaining
+remainingOf (answered set) = record { refusal = 0; place = 0; set = mask decisions set }
 remainingOf (refusing n p) = record { refusal = n; place = p; set = 0 }
 
-unfoldable pub saysPossible : List ℕ → ℕ → ℕ → ℕ → Said Set
+unfoldable pub saysPossible : List ℕ → ℕ → ℕ → ℕ → Said (Set decisions)
 saysPossible s r known request =
     onTable (reading s) (λ c. unlessWrong (askedWrongly (leb (length (c .rows)) r) (badMasks known request)) (possible (c .rows) known request r))
 

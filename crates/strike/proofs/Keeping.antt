@@ -27,7 +27,7 @@ use Rattle.possible.specs.Sets.{single, imageOne, imageTwo}
 use Rattle.possible.specs.Possible.{setBy, setOf, possible}
 use Rattle.walk.specs.declared.questions.Look.{Look}
 use Rattle.walk.specs.declared.questions.Look.the-variants.{True, False, Open}
-use Rattle.walk.specs.Questions.{truthBy, truth, onlyTruth, truthSetBy, truthSet, look}
+use Rattle.walk.specs.Questions.{truthBy, truth, truthSetBy, truthSet, look}
 use Rattle.walk.specs.Walk.{Found, nothing, visit, orElse, walkFrom, sees, walk, replyOf}
 use Rattle.walk.proofs.Answers.{settled-at-n}
 use Rattle.strike.specs.Strike.{lower, old, lowered, struck, names, namedBy}
@@ -278,7 +278,8 @@ module _ (c : Contents) (r : ℕ) (w : Whole c) (unnamed : namedBy r (entries c)
 
   pub truths-kept : (known request j : ℕ) → truthSet (struck r c .rows) told known request j ≡ truthSet (c .rows) questions known request j
   truths-kept known request =
-      question-kept truthSetBy (onlyTruth true) set-answers (possible (struck r c .rows) known request) (possible (c .rows) known request) (possible-kept c r w unnamed known request)
+      question-kept truthSetBy (single true) set-answers (possible (struck r c .rows) known request) (possible (c .rows) known request)
+      (possible-kept c r w unnamed known request)
 
   pub sees-kept : (j : ℕ) → sees (struck r c .rows) told j ≡ sees (c .rows) questions j
   sees-kept j = fun-ext (λ k. fun-ext (λ facts. ap look (truths-kept (2 ^ k - 1) facts j)))
