@@ -110,7 +110,8 @@ module _ {s : List ℕ} {got : Reading} (o : Opened s got) where
         _≡_ {A = Remaining} (record { refusal = 0; place = 0; set = n }) (possibleAnswer s at known request)
     possible-answers e n q =
         let same = same-value (setOf known request) (single U) (got .table .rows) (o .contents .rows) at (λ i k. rows-at i) in
-        let d : n ≡ mask decisions (possible (o .contents .rows) known request at) = q ∙ rw (lt-ltb at rowLimit (row-there at why bad w e)) (ap (mask decisions) same) in
+        let d : n ≡ mask decisions (possible (o .contents .rows) known request at) =
+        q ∙ rw (lt-ltb at rowLimit (row-there at why bad w e)) (ap (mask decisions) same) in
         rw d (sym (ap remainingOf (possible-said ∙ right why _ e)))
 
   module _ (at budget why : ℕ) (w : why ≡ askedWrongly (leb (got .table .asked) at) false) where

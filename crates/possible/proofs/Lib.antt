@@ -1,4 +1,4 @@
--- Laws of sets of decisions, which the layers above cite; below this file, a folder for each function that has a proof of its own.
+-- Laws of sets, which the layers above cite; below this file, a folder for each function that has a proof of its own.
 pub mod Bits
 pub mod Images
 pub mod Masks

@@ -37,6 +37,10 @@ module _ (F : Finite) (f : Entry → Set F → Set F → Set F) (z : Set F) (run
       let y = ap (ofMask F) q ∙ earlier-set (getD run (3 * i + 2) 0) in
       coded-turn f z (mask F) (entriesIn run) i out₀ out filled v l (e ∙ rw (held-at run i h) (rw (x, y)))
 
+-- the first n entries of a list, from the run that they were written to
+pub run-at : (es : List Entry) (n size i : ℕ) (run : List ℕ) → run ≡ padded 0 size (flat (upTo es n)) → i < n → getD (entriesIn run) i blank ≡ getD es i blank
+run-at es n size i run e h = ap (λ (l : List ℕ). getD (entriesIn l) i blank) e ∙ run-holds (upTo es n) size i ∙ upTo-at es n i h
+
 -- the set of a row, from the run of the rows up to it
 pub row-set : (rows : List Entry) (known request r n : ℕ) (out run sets₀ : List ℕ) → run ≡ padded 0 n (flat (upTo rows (r + 1))) →
     out ≡ map (mask decisions) (values (setOf known request) (single U) (entriesIn run) (r + 1)) ++ drop (r + 1) sets₀ →
@@ -44,4 +48,4 @@ pub row-set : (rows : List Entry) (known request r n : ℕ) (out run sets₀ : L
 row-set rows known request r n out run sets₀ q p =
     coded-get (setOf known request) (single U) (mask decisions) (entriesIn run) (r + 1) sets₀ out p r (omega arith)
     ∙ ap (mask decisions) (same-value (setOf known request) (single U) (entriesIn run) rows r
-    (λ j l. ap (λ (x : List ℕ). getD (entriesIn x) j blank) q ∙ run-holds (upTo rows (r + 1)) n j ∙ upTo-at rows (r + 1) j (omega arith)))
+    (λ j l. run-at rows (r + 1) n j run q (omega arith)))

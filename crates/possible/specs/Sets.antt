@@ -44,18 +44,19 @@ either s t = record { has = λ v. s .has v || t .has v }
 abbrev pub any : (F : Finite) → (F .Member → Bool) → Bool
 any F p = foldr (λ x later. p x || later) false (F .members)
 
--- "every result over every choice from its operands' sets, each operand chosen independently": what some choice from a set leads to
+-- what some choice from a set leads to
 unfoldable pub choosing : {F G : Finite} → Set F → (F .Member → Set G) → Set G
 choosing {F} s leads = record { has = λ v. any F (λ x. s .has x && leads x .has v) }
 
--- the results of an operator; an order, "not" and "both" are operators with results among the truths: "A question's set … is formed alike."
+-- "An operator's set is every result over every choice from its operands' sets, each operand chosen independently, also where both operands are the same
+-- row. A question's set, of true and false, is formed alike": an order, "not" and "both" are operators too.
 unfoldable pub imageOne : {F G : Finite} → (F .Member → G .Member) → Set F → Set G
 imageOne f s = choosing s (λ x. single (f x))
 
 unfoldable pub imageTwo : {F G : Finite} → (F .Member → F .Member → G .Member) → Set F → Set F → Set G
 imageTwo f s t = choosing s (λ x. imageOne (f x) t)
 
--- "a mask in which u counts 1, d 2, g 4, c 8": the first member counts 1, each other twice what the one before it counts
+-- "a mask in which u counts 1, d 2, g 4, c 8": the first member counts 1, each other twice what the one before it counts; so true counts 1, false 2
 unfoldable pub mask : (F : Finite) → Set F → ℕ
 mask F s = foldr (λ x later. cond (s .has x) 1 0 + 2 * later) 0 (F .members)
 

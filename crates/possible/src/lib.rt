@@ -60,7 +60,9 @@ pub fn earlier(masks: &[u8], i: usize, n: u8) -> u8
 // The sets of the rows below a number, from a run of rows, each from those before it, into the front of what is lent.
 pub fn sets_below(rows: &[u8], end: usize, known: u32, request: u32, sets: &mut [u8])
     requires { ⌜ (3 * end ≤ length (now rows)) × (end ≤ length (now sets)) ⌝ }
-    ensures { λ r. ⌜ now (sets .exit) ≡ map (mask decisions) (values (setOf known request) (single U) (entriesIn (now (rows .entry))) end) ++ drop end (now (sets .entry)) ⌝ }
+    ensures { λ r. ⌜ now (sets .exit) ≡
+        map (mask decisions) (values (setOf known request) (single U) (entriesIn (now (rows .entry))) end)
+        ++ drop end (now (sets .entry)) ⌝ }
 {
     let mut i = 0;
     while i < end {

@@ -7,7 +7,6 @@ use native.Mathlib.Omega.{arith}
 use Rattle.decide.specs.Meaning.{bit}
 use Rattle.possible.specs.Sets.{truths, Set, single, ofMask}
 use Rattle.possible.proofs.Masks.{low}
-use Rattle.walk.specs.declared.questions.Look.{Look}
 use Rattle.walk.specs.declared.questions.Look.the-variants.{True, False, Open}
 use Rattle.walk.specs.Questions.{look}
 

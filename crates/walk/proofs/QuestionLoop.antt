@@ -3,7 +3,7 @@
 use mathlib.Core.Path.{_≡_, refl, ap, ap₂, fun-ext, _∙_}
 use mathlib.Core.Bool.{true}
 use mathlib.Core.List.{List, _++_, map}
-use Prim.Native.Nat.{ℕ, _+_, _-_, _*_, _^_, _≤_, _<_}
+use Prim.Native.Nat.{ℕ, _+_, _-_, _^_, _≤_, _<_}
 use native.Mathlib.Omega.{arith}
 use lib.ListN.{getD, drop}
 use Rattle.table.specs.declared.kinds.Kind.{Kind}
@@ -14,14 +14,13 @@ use Rattle.table.specs.Reading.{padded}
 use Rattle.table.specs.Flat.{upTo, flat, entriesIn}
 use Rattle.table.proofs.Numbers.{by-order}
 use Rattle.table.proofs.Padding.{padded-at}
-use Rattle.table.proofs.Runs.{run-holds, upTo-at}
 use Rattle.decide.specs.Rows.{values, valueAt}
 use Rattle.decide.proofs.RowByRow.{by-rows, before-there, before-past, same-value, side-by-side}
 use Rattle.belnap.specs.declared.Decision.the-variants.{U}
 use Rattle.belnap.specs.Orders.{atOrBelow}
 use Rattle.possible.specs.Sets.{decisions, truths, Set, single, imageTwo, mask, ofMask}
 use Rattle.possible.specs.Possible.{setOf, possible}
-use Rattle.possible.proofs.SetLoop.{earlier-set, filled-set}
+use Rattle.possible.proofs.SetLoop.{earlier-set, filled-set, run-at}
 use Rattle.walk.specs.Questions.{truthSetBy, asksSet, look, topBy, top, maskAt}
 use Rattle.walk.specs.Walk.{sees, walkFrom, walk}
 use Rattle.walk.specs.declared.questions.Look.{Look}
@@ -90,9 +89,6 @@ visit-sees rows questions sets₀ sets masks₀ masks seen j k known facts e p q
 -- a walk over the runs that a table's entries were written to is the walk over the entries
 module _ (rows questions : List Entry) (run asked : List ℕ) (m o seen j : ℕ) (p : run ≡ padded 0 m (flat (upTo rows seen)))
     (q : asked ≡ padded 0 o (flat (upTo questions (j + 1)))) (t : seen ≡ top (entriesIn asked) j) where
-  run-at : (l : List Entry) (n x i : ℕ) (r : List ℕ) → r ≡ padded 0 x (flat (upTo l n)) → i < n → getD (entriesIn r) i blank ≡ getD l i blank
-  run-at l n x i r e h = ap (λ (r : List ℕ). getD (entriesIn r) i blank) e ∙ run-holds (upTo l n) x i ∙ upTo-at l n i h
-
   run-sees : (k facts : ℕ) → sees (entriesIn run) (entriesIn asked) j k facts ≡ sees rows questions j k facts
   run-sees k facts =
       let f = setOf (2 ^ k - 1) facts in

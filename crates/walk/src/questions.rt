@@ -82,7 +82,9 @@ fn truth_by(kind: Kind, s: u8, t: u8, x: u8, y: u8) -> u8
 // The sets of the questions below a number, from a run of questions and the sets of the rows below `top`, into the front of what is lent.
 pub(crate) fn truths_below(questions: &[u8], end: usize, sets: &[u8], top: usize, masks: &mut [u8])
     requires { ⌜ (3 * end ≤ length (now questions)) × (top ≤ length (now sets)) × (end ≤ length (now masks)) ⌝ }
-    ensures { λ r. ⌜ now (masks .exit) ≡ map (mask truths) (values (asksSet (maskAt (now (sets .entry)) top)) (single true) (entriesIn (now (questions .entry))) end) ++ drop end (now (masks .entry)) ⌝ }
+    ensures { λ r. ⌜ now (masks .exit) ≡
+        map (mask truths) (values (asksSet (maskAt (now (sets .entry)) top)) (single true) (entriesIn (now (questions .entry))) end)
+        ++ drop end (now (masks .entry)) ⌝ }
 {
     let mut i = 0;
     while i < end {

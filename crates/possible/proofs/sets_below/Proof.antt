@@ -43,7 +43,8 @@ loop-again c =
     let kind = first .before .before .before .before in
     let at = kind .before .before .before in
     let a = at .before .before .before .args in
-    let turn = set-turn decisions (setOf (a .known) (a .request)) (single U) (a .rows .now) (at .loop .i) (a .sets .now) (at .loop .sets) (at .loop .inv .2) in (
+    let f = setOf (a .known) (a .request) in
+    let turn = set-turn decisions f (single U) (a .rows .now) (at .loop .i) (a .sets .now) (at .loop .sets) (at .loop .inv .2) in (
       omega arith,
       length-set (at .loop .sets) (at .loop .i) (c .set-by .result) ∙ at .loop .inv .1,
       turn (first .earlier .result) (second .earlier2 .result) (c .set-by .result) (omega arith) (omega arith)

@@ -11,19 +11,27 @@ use Rattle.possible.proofs.sets.image_one.Tie as tie
 
 returns : tie.Need-returns
 unfolding mask ofMask bit choosing imageOne
-returns c = let a = c .before .before .before .args in rw (c .before .enum-told .given .1) (c .digit .ensures ∙ in-word decisions decisions (omega arith) (imageOne negation) (a .s))
+returns c =
+    let a = c .before .before .before .args in
+    rw (c .before .enum-told .given .1) (c .digit .ensures ∙ in-word decisions decisions (omega arith) (imageOne negation) (a .s))
 
 returns-2 : tie.Need-returns-2
 unfolding mask ofMask bit choosing imageOne
-returns-2 c = let a = c .before .before .before .args in rw (c .before .enum-told2 .given .1) (c .digit2 .ensures ∙ in-word decisions decisions (omega arith) (imageOne conflation) (a .s))
+returns-2 c =
+    let a = c .before .before .before .args in
+    rw (c .before .enum-told2 .given .1) (c .digit2 .ensures ∙ in-word decisions decisions (omega arith) (imageOne conflation) (a .s))
 
 returns-3 : tie.Need-returns-3
 unfolding mask ofMask bit choosing imageOne
-returns-3 c = let a = c .before .before .before .args in rw (c .before .enum-told3 .given .1) (c .digit3 .ensures ∙ in-word decisions decisions (omega arith) (imageOne closedDefault) (a .s))
+returns-3 c =
+    let a = c .before .before .before .args in
+    rw (c .before .enum-told3 .given .1) (c .digit3 .ensures ∙ in-word decisions decisions (omega arith) (imageOne closedDefault) (a .s))
 
 returns-4 : tie.Need-returns-4
 unfolding mask ofMask bit choosing imageOne
-returns-4 c = let a = c .before .before .before .args in rw (c .before .enum-told4 .given .1) (c .digit4 .ensures ∙ in-word decisions decisions (omega arith) (imageOne openDefault) (a .s))
+returns-4 c =
+    let a = c .before .before .before .args in
+    rw (c .before .enum-told4 .given .1) (c .digit4 .ensures ∙ in-word decisions decisions (omega arith) (imageOne openDefault) (a .s))
 
 pub image-one-spec : {M : Type 1} → statement M
 image-one-spec =

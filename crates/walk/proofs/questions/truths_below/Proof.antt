@@ -47,13 +47,14 @@ loop-again c =
     let at = inside .before in
     let start = at .before .before .before .before in
     let args = start .args in
-    let sets = maskAt (args .sets .now) (args .top) in
-    let turn = set-turn truths (asksSet sets) (single true) (args .questions .now) (at .loop .i) (args .masks .now) (at .loop .masks) (at .loop .inv .2) in (
+    let f = asksSet (maskAt (args .sets .now) (args .top)) in
+    let turn = set-turn truths f (single true) (args .questions .now) (at .loop .i) (args .masks .now) (at .loop .masks) (at .loop .inv .2) in (
       omega arith,
       length-set (at .loop .masks) (at .loop .i) (c .truth-by .result) ∙ at .loop .inv .1,
       turn (first .earlier3 .result) (second .earlier4 .result) (c .truth-by .result)
           (omega (arith, start .pre .0, inside .loop-test)) (omega (arith, start .pre .2, inside .loop-test))
-          (first .earlier3 .ensures) (second .earlier4 .ensures) (rw (kind .kind-in .ensures, a .earlier .ensures, b .earlier2 .ensures) at (c .truth-by .ensures)),
+          (first .earlier3 .ensures) (second .earlier4 .ensures)
+          (rw (kind .kind-in .ensures, a .earlier .ensures, b .earlier2 .ensures) at (c .truth-by .ensures)),
     )
 
 same-length : tie.Need-same-length Inv-loop μ-loop
