@@ -25,13 +25,13 @@ use Rattle.possible.specs.Sets.{decisions, Set, Within, single, either, 
 use Rattle.possible.specs.Possible.{factSet, setBy, setOf, possible}
 use Rattle.possible.proofs.Images.{single-has, either-left, either-right, one-has, two-has, one-single, two-single, one-within, two-within}
 
--- the set of a fact, by whether it is known and whether it is yes; unknown, it has what both ways decide
+-- the set of a fact, by whether it is known and whether it is yes; unknown, it has what is decided either way
 abbrev factBy : Decision → Bool → Bool → Set decisions
 factBy v known said = cond known (single (cond said v U)) (either (single U) (single v))
 
-either-way : (v : Decision) (said later : Bool) → Within (single {F = decisions} (cond said v U)) (factBy v false later)
-either-way v true later = either-right {F = decisions} (single U) (single v)
-either-way v false later = either-left {F = decisions} (single U) (single v)
+either-way : (v : Decision) (said : Bool) → Within (single {F = decisions} (cond said v U)) (either (single U) (single v))
+either-way v true = either-right {F = decisions} (single U) (single v)
+either-way v false = either-left {F = decisions} (single U) (single v)
 
 -- a fact's set has what a filling decides
 fact-has : (v : Decision) (p known request o : ℕ) → Fills known request o → factSet v p known request .has (cond (bit o p) v U) ≡ true
@@ -40,7 +40,7 @@ fact-has v p known request o h = go (bit known p) refl
   where
     go : (k : Bool) → bit known p ≡ k → factBy v k (bit request p) .has (cond (bit o p) v U) ≡ true
     go true e = rw (h p e) (single-has decisions (cond (bit request p) v U))
-    go false e = either-way v (bit o p) (bit request p) (cond (bit o p) v U) (single-has decisions (cond (bit o p) v U))
+    go false e = either-way v (bit o p) (cond (bit o p) v U) (single-has decisions (cond (bit o p) v U))
 
 row-has : (k : Kind) (a known request o : ℕ) → Fills known request o → (x y : Decision) (s t : Set decisions) → s .has x ≡ true → t .has y ≡ true →
     setBy k a known request s t .has (decideBy k a o x y) ≡ true
@@ -71,7 +71,7 @@ fact-within v p known request more then h = go (bit known p) refl (bit more p) r
     go : (k : Bool) → bit known p ≡ k → (m : Bool) → bit more p ≡ m → Within (factBy v m (bit then p)) (factBy v k (bit request p))
     go true e true d = rw (h p e .1) (λ x q. q)
     go true e false d = never (sym (h p e .0) ∙ d)
-    go false e true d = either-way v (bit then p) (bit request p)
+    go false e true d = either-way v (bit then p)
     go false e false d = λ x q. q
 
 row-within : (k : Kind) (a known request more then : ℕ) → Learns known request more then → (s t u v : Set decisions) → Within s u → Within t v →

@@ -66,7 +66,7 @@ pub only-top : (qs : List Entry) (rows : ℕ) (f g : ℕ → Set decisions) → 
 unfolding valueAt
 only-top qs rows f g h = by-rows (λ j. top qs j ≤ rows → valueAt (asksSet f) (single true) qs j ≡ valueAt (asksSet g) (single true) qs j) (λ j ih t.
     let e = getD qs j blank in
-    let z = single true in
+    let z : Set truths = single true in
     let at : (x : ℕ) → getD (values topOf 0 qs j) x 0 ≤ rows → getD (values (asksSet f) z qs j) x z ≡ getD (values (asksSet g) z qs j) x z =
     λ x l. by-order x j
     (λ k. rw (before-there (asksSet f) z qs j x k, before-there (asksSet g) z qs j x k) (ih x k (rw (before-there topOf 0 qs j x k) at l)))
@@ -92,7 +92,7 @@ module _ (rows questions : List Entry) (run asked : List ℕ) (m o seen j : ℕ)
   run-sees : (k facts : ℕ) → sees (entriesIn run) (entriesIn asked) j k facts ≡ sees rows questions j k facts
   run-sees k facts =
       let f = setOf (2 ^ k - 1) facts in
-      let z = single true in
+      let z : Set truths = single true in
       let each : (r : ℕ) → r < seen → possible (entriesIn run) (2 ^ k - 1) facts r ≡ possible rows (2 ^ k - 1) facts r =
       λ r h. same-value f (single U) (entriesIn run) rows r (λ i l. run-at rows seen m i run p (omega arith)) in
       ap look (only-top (entriesIn asked) seen (possible (entriesIn run) (2 ^ k - 1) facts) (possible rows (2 ^ k - 1) facts) each j (omega arith)
