@@ -35,19 +35,19 @@ high-bits false later = omega arith
 
 -- over a list of members: its bits, and how large it is
 module _ {A : Type 0} (has : A → Bool) where
-  abbrev over : List A → ℕ
-  over l = foldr (λ x later. onto (has x) later) 0 l
+  abbrev masked : List A → ℕ
+  masked l = foldr (λ x later. onto (has x) later) 0 l
 
-  bit-listed : (l : List A) (i : ℕ) {x : A} → getElem? l i ≡ some x → bit (over l) i ≡ has x
+  bit-listed : (l : List A) (i : ℕ) {x : A} → getElem? l i ≡ some x → bit (masked l) i ≡ has x
   bit-listed [] i at = none-stands at
-  bit-listed (y ∷ l) zero at = low-bit (has y) (over l) ∙ ap has (cc)
-  bit-listed (y ∷ l) (suc i) at = bit-suc (over (y ∷ l)) i ∙ rw (high-bits (has y) (over l)) (bit-listed l i at)
+  bit-listed (y ∷ l) zero at = low-bit (has y) (masked l) ∙ ap has (cc)
+  bit-listed (y ∷ l) (suc i) at = bit-suc (masked (y ∷ l)) i ∙ rw (high-bits (has y) (masked l)) (bit-listed l i at)
 
-  over-below : (l : List A) → over l < 2 ^ length l
-  over-below [] = omega arith
-  over-below (x ∷ l) = rw (two-pow-succ (length l)) (at (has x) (over-below l))
+  masked-below : (l : List A) → masked l < 2 ^ length l
+  masked-below [] = omega arith
+  masked-below (x ∷ l) = rw (two-pow-succ (length l)) (at (has x) (masked-below l))
     where
-      at : (b : Bool) → over l < 2 ^ length l → onto b (over l) < 2 ^ length l + 2 ^ length l
+      at : (b : Bool) → masked l < 2 ^ length l → onto b (masked l) < 2 ^ length l + 2 ^ length l
       at true h = omega arith
       at false h = omega arith
 
@@ -67,7 +67,7 @@ module _ (F : Finite) where
 
   pub mask-below : (s : Set F) → mask F s < 2 ^ length (F .members)
   unfolding mask
-  mask-below s = over-below (s .has) (F .members)
+  mask-below s = masked-below (s .has) (F .members)
 
   pub low : (n : ℕ) → ofMask F (n % 2 ^ length (F .members)) ≡ ofMask F n
   unfolding ofMask

@@ -12,12 +12,15 @@ sub-known c = let a = c .before .before .before .before in rw (power-shifted (a 
 
 returns : tie.Need-returns
 returns c =
-    let a = c .before .before .before .before .before .before .before .before .before .before .before .before .before .before .before .args in
-    let pre = c .before .before .before .before .before .before .before .before .before .before .before .before .before .before .before .pre in
-    let known = ap (λ (n : ℕ). n - 1) (power-shifted (a .k) (pre .5)) in
+    let asked = c .before .before .before .before in
+    let decided = asked .before .before .before .before .before in
+    let start = decided .before .before .before .before .before .before in
+    let a = start .args in
+    let known = ap (λ (n : ℕ). n - 1) (power-shifted (a .k) (start .pre .5)) in
     c .look-of .ensures
-    ∙ visit-sees (a .rows .now) (a .questions .now) (a .sets .now) (c .before .before .before .before .before .before .before .before .before .sets-below .last .1 .1 .1 .1 .0) (a .truths .now) (c .before .before .before .before .truths-below .last .1 .1 .1 .1 .0)
-    (a .top) (a .question) (a .k) _ (a .facts) known (c .before .before .before .before .before .before .before .before .before .sets-below .ensures) (c .before .before .before .before .truths-below .ensures) (pre .4)
+    ∙ visit-sees (a .rows .now) (a .questions .now) (a .sets .now) (decided .sets-below .last .1 .1 .1 .1 .0)
+    (a .truths .now) (asked .truths-below .last .1 .1 .1 .1 .0) (a .top) (a .question) (a .k) _ (a .facts)
+    known (decided .sets-below .ensures) (asked .truths-below .ensures) (start .pre .4)
 
 pub visit-spec : {M : Type 1} → statement M
 visit-spec =
