@@ -1,6 +1,7 @@
 -- The four decisions by their two claims, and their codes (01, "The four decisions").
 use Prim.Native.Nat.{ℕ}
 use mathlib.Core.Bool.{Bool, true, false, cond, not, _&&_}
+use mathlib.Core.List.{List, [], _∷_}
 use lib.Dec.{eqb}
 use Rattle.belnap.specs.declared.Decision.{Decision}
 use Rattle.belnap.specs.declared.Decision.the-variants.{U, D, G, C}
@@ -44,3 +45,7 @@ code C = 3
 -- the decision with a code; a number that is no code reads as u
 unfoldable pub coded : ℕ → Decision
 coded n = cond (eqb n 1) D (cond (eqb n 2) G (cond (eqb n 3) C U))
+
+-- every decision, in the order of the codes
+abbrev pub everyDecision : List Decision
+everyDecision = U ∷ D ∷ G ∷ C ∷ []

@@ -1,5 +1,6 @@
 -- The operators by their claims, each under its sentence of 01, "The four decisions".
 use mathlib.Core.Bool.{Bool, cond, not, _&&_, _||_}
+use mathlib.Core.List.{List, [], _∷_}
 use Rattle.belnap.specs.Decisions.{grants, denies, claiming, alike, same}
 use Rattle.belnap.specs.declared.Decision.{Decision}
 use Rattle.belnap.specs.declared.Decision.the-variants.{U, D, G, C}
@@ -73,3 +74,10 @@ two OverrideU = override U
 two OverrideD = override D
 two OverrideG = override G
 two OverrideC = override C
+
+-- every operator there is
+abbrev pub everyOneRow : List OneRow
+everyOneRow = Negation ∷ Conflation ∷ ClosedDefault ∷ OpenDefault ∷ []
+
+abbrev pub everyTwoRow : List TwoRow
+everyTwoRow = TruthMeet ∷ TruthJoin ∷ KnowledgeMeet ∷ KnowledgeJoin ∷ Implication ∷ Guard ∷ OverrideU ∷ OverrideD ∷ OverrideG ∷ OverrideC ∷ []

@@ -1,5 +1,6 @@
 -- The two orders by the claims (01, "The four decisions").
 use mathlib.Core.Bool.{Bool, not, _&&_, _||_}
+use mathlib.Core.List.{List, [], _∷_}
 use Rattle.belnap.specs.Decisions.{grants, denies}
 use Rattle.belnap.specs.declared.Decision.{Decision}
 use Rattle.belnap.specs.declared.orders.Order.{Order}
@@ -21,3 +22,7 @@ knowledgeOrder x y = onlyIf (grants x) (grants y) && onlyIf (denies x) (denies y
 abbrev pub atOrBelow : Order → Decision → Decision → Bool
 atOrBelow Truth = truthOrder
 atOrBelow Knowledge = knowledgeOrder
+
+-- both orders
+abbrev pub everyOrder : List Order
+everyOrder = Truth ∷ Knowledge ∷ []

@@ -11,14 +11,15 @@ use Rattle.belnap.specs.declared.Decision.{Decision}
 use Rattle.belnap.specs.declared.Decision.the-variants.{U}
 use Rattle.belnap.specs.Operators.{one, two}
 use Rattle.belnap.proofs.Finite.{or-left, or-right, or-part}
-use Rattle.table.specs.declared.kinds.Kind.{Kind}
-use Rattle.table.specs.declared.kinds.Kind.the-variants.{Always, DenyIf, GrantIf, One, Two, Compare, Not, Both}
+use Rattle.table.specs.declared.kinds.RowKind.{RowKind}
+use Rattle.table.specs.declared.kinds.RowKind.the-variants.{Always, DenyIf, GrantIf, One, Two}
+use Rattle.table.specs.declared.kinds.Kind.the-variants.{Row}
 use Rattle.table.specs.declared.entries.Entry.{Entry}
-use Rattle.table.specs.Kinds.{formOf}
+use Rattle.table.specs.Kinds.{formOf, asRow}
 use Rattle.table.specs.Entries.{blank, usedBy}
-use Rattle.table.specs.Reading.{predicates}
 use Rattle.table.proofs.Numbers.{by-order}
-use Rattle.table.proofs.Laws.{used-below}
+use Rattle.table.specs.Contents.{Covers}
+use Rattle.table.proofs.Laws.{row-uses}
 use Rattle.decide.specs.Rows.{values, valueAt}
 use Rattle.decide.specs.Meaning.{bit, decideBy, decides, decision}
 use Rattle.decide.specs.Requests.{Agree}
@@ -26,7 +27,7 @@ use Rattle.decide.specs.Reach.{reachBy, nowhere, reaches}
 use Rattle.decide.proofs.RowByRow.{by-rows, before-there, before-past}
 
 -- one row, from the rows that it names
-row-agrees : (k : Kind) (a m o : ℕ) (x y u v : Decision) (s t : ℕ → Bool) → Agree (reachBy k a s t) m o →
+row-agrees : (k : RowKind) (a m o : ℕ) (x y u v : Decision) (s t : ℕ → Bool) → Agree (reachBy k a s t) m o →
     (Agree s m o → x ≡ u) → (Agree t m o → y ≡ v) → decideBy k a m x y ≡ decideBy k a o u v
 unfolding decideBy
 row-agrees (Always w) a m o x y u v s t h p q = refl
@@ -35,45 +36,40 @@ row-agrees GrantIf a m o x y u v s t h p q = rw (h a (eq-eqb a a refl))
 row-agrees (One op) a m o x y u v s t h p q = ap (one op) (p h)
 row-agrees (Two op) a m o x y u v s t h p q =
     ap₂ (two op) (p (λ i e. h i (or-left (s i) (t i) e))) (q (λ i e. h i (or-right (s i) (t i) e)))
-row-agrees (Compare c) a m o x y u v s t h p q = refl
-row-agrees Not a m o x y u v s t h p q = refl
-row-agrees Both a m o x y u v s t h p q = refl
 
 abbrev reach : Entry → (ℕ → Bool) → (ℕ → Bool) → ℕ → Bool
-reach e x y = reachBy (e .kind) (e .a) x y
+reach e x y = reachBy (asRow (e .kind)) (e .a) x y
 
 pub independent : (rows : List Entry) (m o r : ℕ) → Agree (reaches rows r) m o → decision rows m r ≡ decision rows o r
 unfolding valueAt
 independent rows m o = by-rows (λ r. Agree (reaches rows r) m o → decision rows m r ≡ decision rows o r) (λ r ih agree.
     let e = getD rows r blank in
-    let at : (x : ℕ) → Agree (getD (values reach nowhere rows r) x nowhere) m o → getD (values (decides m) U rows r) x U ≡ getD (values (decides o) U rows r) x U =
+    let at : (x : ℕ) → Agree (getD (values reach nowhere rows r) x nowhere) m o → getD (values (decides m) U rows r) x U ≡
+    getD (values (decides o) U rows r) x U =
     λ x g. by-order x r
     (λ h. rw (before-there (decides m) U rows r x h, before-there (decides o) U rows r x h) (ih x h (rw (before-there reach nowhere rows r x h) at g)))
     (λ h. rw (before-past (decides m) U rows r x h, before-past (decides o) U rows r x h)) in
-    row-agrees (e .kind) (e .a) m o _ _ _ _ _ _ agree (at (e .a)) (at (e .b)))
+    row-agrees (asRow (e .kind)) (e .a) m o _ _ _ _ _ _ agree (at (e .a)) (at (e .b)))
 
--- a row reaches only predicates below n
-row-below : (k : Kind) (a b n p : ℕ) (s t : ℕ → Bool) → usedBy (formOf k .names) a ≤ n → (s p ≡ true → p < n) → (t p ≡ true → p < n) →
+-- a row reaches only predicates below an n that covers them
+row-below : (k : RowKind) (a b n p : ℕ) (s t : ℕ → Bool) → usedBy (formOf (Row k) .names) a ≤ n → (s p ≡ true → p < n) → (t p ≡ true → p < n) →
     reachBy k a s t p ≡ true → p < n
 row-below (Always v) a b n p s t u f g e = absurd (let z : _≡_ {A = ℕ} 0 1 = cc in omega arith)
 row-below DenyIf a b n p s t u f g e = omega (arith, eqb-true p a e)
 row-below GrantIf a b n p s t u f g e = omega (arith, eqb-true p a e)
 row-below (One op) a b n p s t u f g e = f e
 row-below (Two op) a b n p s t u f g e = or-part (s p) (t p) e f g
-row-below (Compare o) a b n p s t u f g e = absurd (let z : _≡_ {A = ℕ} 0 1 = cc in omega arith)
-row-below Not a b n p s t u f g e = absurd (let z : _≡_ {A = ℕ} 0 1 = cc in omega arith)
-row-below Both a b n p s t u f g e = absurd (let z : _≡_ {A = ℕ} 0 1 = cc in omega arith)
 
-pub reach-below : (rows : List Entry) (p r : ℕ) → reaches rows r p ≡ true → p < predicates rows
+pub reach-below : (rows : List Entry) (n : ℕ) → Covers n rows → (p r : ℕ) → reaches rows r p ≡ true → p < n
 unfolding valueAt
-reach-below rows p = by-rows (λ r. reaches rows r p ≡ true → p < predicates rows) (λ r ih.
+reach-below rows n covers p = by-rows (λ r. reaches rows r p ≡ true → p < n) (λ r ih.
     let e = getD rows r blank in
-    let at : (x : ℕ) → getD (values reach nowhere rows r) x nowhere p ≡ true → p < predicates rows =
+    let at : (x : ℕ) → getD (values reach nowhere rows r) x nowhere p ≡ true → p < n =
     λ x. by-order x r
     (λ h. rw (before-there reach nowhere rows r x h) (ih x h))
     (λ h. rw (before-past reach nowhere rows r x h) (λ q. absurd (let z : _≡_ {A = ℕ} 0 1 = cc in omega arith))) in
-    row-below (e .kind) (e .a) (e .b) (predicates rows) p _ _ (used-below rows r) (at (e .a)) (at (e .b)))
+    row-below (asRow (e .kind)) (e .a) (e .b) n p _ _ (omega (arith, row-uses e, covers r)) (at (e .a)) (at (e .b)))
 
 -- "Predicates from n up may be given and change nothing."
-pub beyond-n : (rows : List Entry) (m o r : ℕ) → ((p : ℕ) → p < predicates rows → bit m p ≡ bit o p) → decision rows m r ≡ decision rows o r
-beyond-n rows m o r h = independent rows m o r (λ p e. h p (reach-below rows p r e))
+pub beyond-n : (rows : List Entry) (n : ℕ) → Covers n rows → (m o r : ℕ) → ((p : ℕ) → p < n → bit m p ≡ bit o p) → decision rows m r ≡ decision rows o r
+beyond-n rows n covers m o r h = independent rows m o r (λ p e. h p (reach-below rows n covers p r e))

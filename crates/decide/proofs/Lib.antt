@@ -3,3 +3,4 @@ pub mod RowByRow
 pub mod Independence
 pub mod Unique
 pub mod Rules
+pub mod Renaming

@@ -68,7 +68,8 @@ module _ {A : Type 0} (f : Entry → A → A → A) (z : A) where
       let w : v ≡ valueBy f z (getD es i blank) l =
       e ∙ ap₂ (f (getD es i blank)) (ap (λ (d : List A). getD d (getD es i blank .a) z) q ∙ padded-at z n l (getD es i blank .a))
       (ap (λ (d : List A). getD d (getD es i blank .b) z) q ∙ padded-at z n l (getD es i blank .b)) in
-      rw (add-one i, q, w) (ap (λ (k : ℕ). set (padded z n l) k (valueBy f z (getD es i blank) l)) (sym m) ∙ padded-more z n l (valueBy f z (getD es i blank) l) (rw m h))
+      rw (add-one i, q, w) (ap (λ (k : ℕ). set (padded z n l) k (valueBy f z (getD es i blank) l)) (sym m) ∙ padded-more z n l (valueBy f z (getD es i blank) l)
+      (rw m h))
 
 -- inside a list it does not matter what would stand past its end
 pub getD-any : {A : Type 0} (l : List A) (i : ℕ) (d e : A) → i < length l → getD l i d ≡ getD l i e

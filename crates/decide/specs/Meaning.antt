@@ -6,9 +6,10 @@ use lib.Dec.{eqb, ltb}
 use Rattle.belnap.specs.declared.Decision.{Decision}
 use Rattle.belnap.specs.declared.Decision.the-variants.{U, D, G}
 use Rattle.belnap.specs.Operators.{one, two}
-use Rattle.table.specs.declared.kinds.Kind.{Kind}
-use Rattle.table.specs.declared.kinds.Kind.the-variants.{Always, DenyIf, GrantIf, One, Two, Compare, Not, Both}
+use Rattle.table.specs.declared.kinds.RowKind.{RowKind}
+use Rattle.table.specs.declared.kinds.RowKind.the-variants.{Always, DenyIf, GrantIf, One, Two}
 use Rattle.table.specs.declared.entries.Entry.{Entry}
+use Rattle.table.specs.Kinds.{asRow}
 use Rattle.table.specs.Entries.{rowLimit}
 use Rattle.decide.specs.Rows.{valueAt}
 
@@ -16,19 +17,16 @@ use Rattle.decide.specs.Rows.{valueAt}
 unfoldable pub bit : ℕ → ℕ → Bool
 bit mask i = eqb (mask / 2 ^ i % 2) 1
 
--- "always u, d, g, c"; "d if it, g if it (u when it is no)"; the operators. A question is no row: it reads as always u.
-unfoldable pub decideBy : Kind → ℕ → ℕ → Decision → Decision → Decision
+-- "always u, d, g, c"; "d if it, g if it (u when it is no)"; the operators
+unfoldable pub decideBy : RowKind → ℕ → ℕ → Decision → Decision → Decision
 decideBy (Always v) p request x y = v
 decideBy DenyIf p request x y = cond (bit request p) D U
 decideBy GrantIf p request x y = cond (bit request p) G U
 decideBy (One op) p request x y = one op x
 decideBy (Two op) p request x y = two op x y
-decideBy (Compare o) p request x y = U
-decideBy Not p request x y = U
-decideBy Both p request x y = U
 
 abbrev pub decides : ℕ → Entry → Decision → Decision → Decision
-decides request e x y = decideBy (e .kind) (e .a) request x y
+decides request e x y = decideBy (asRow (e .kind)) (e .a) request x y
 
 -- what row r decides at a request, given as its yes mask
 abbrev pub decision : List Entry → ℕ → ℕ → Decision

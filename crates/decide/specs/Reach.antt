@@ -3,25 +3,23 @@ use Prim.Native.Nat.{ℕ}
 use mathlib.Core.Bool.{Bool, false, _||_}
 use mathlib.Core.List.{List}
 use lib.Dec.{eqb}
-use Rattle.table.specs.declared.kinds.Kind.{Kind}
-use Rattle.table.specs.declared.kinds.Kind.the-variants.{Always, DenyIf, GrantIf, One, Two, Compare, Not, Both}
+use Rattle.table.specs.declared.kinds.RowKind.{RowKind}
+use Rattle.table.specs.declared.kinds.RowKind.the-variants.{Always, DenyIf, GrantIf, One, Two}
 use Rattle.table.specs.declared.entries.Entry.{Entry}
+use Rattle.table.specs.Kinds.{asRow}
 use Rattle.decide.specs.Rows.{valueAt}
 
 -- its own predicate, and what the rows that it names reach
-abbrev pub reachBy : Kind → ℕ → (ℕ → Bool) → (ℕ → Bool) → ℕ → Bool
+abbrev pub reachBy : RowKind → ℕ → (ℕ → Bool) → (ℕ → Bool) → ℕ → Bool
 reachBy (Always v) a x y p = false
 reachBy DenyIf a x y p = eqb p a
 reachBy GrantIf a x y p = eqb p a
 reachBy (One op) a x y p = x p
 reachBy (Two op) a x y p = x p || y p
-reachBy (Compare o) a x y p = false
-reachBy Not a x y p = false
-reachBy Both a x y p = false
 
 abbrev pub nowhere : ℕ → Bool
 nowhere p = false
 
 -- whether row r reaches a predicate
 abbrev pub reaches : List Entry → ℕ → ℕ → Bool
-reaches rows r = valueAt (λ e x y. reachBy (e .kind) (e .a) x y) nowhere rows r
+reaches rows r = valueAt (λ e x y. reachBy (asRow (e .kind)) (e .a) x y) nowhere rows r

@@ -2,10 +2,12 @@
 use belnap::Decision;
 use table::Table;
 use table::entries;
-use table::kinds::Kind;
+use table::kinds;
+use table::kinds::RowKind;
 ghost use mathlib.Core.Path.{_≡_};
 ghost use Prim.Native.Nat.{_≤_};
 ghost use Rattle.belnap.specs.declared.Decision.the-variants.{U};
+ghost use Rattle.table.specs.Entries.{rowLimit};
 ghost use Rattle.table.specs.Reading.{padded};
 ghost use Rattle.decide.specs.Rows.{values};
 ghost use Rattle.decide.specs.Meaning.{bit, decideBy, decides, decisionIn};
@@ -21,45 +23,43 @@ pub fn bit_of(mask: u32, predicate: u8) -> bool
 }
 
 // What a row decides where the rows that it names decide x and y.
-fn decide_by(kind: Kind, predicate: u8, request: u32, x: Decision, y: Decision) -> Decision
+fn decide_by(kind: RowKind, predicate: u8, request: u32, x: Decision, y: Decision) -> Decision
     ensures { λ r. ⌜ r ≡ decideBy kind predicate request x y ⌝ }
 {
     match kind {
-        Kind::Always(v) => v,
-        Kind::DenyIf => if bit_of(request, predicate) {
+        RowKind::Always(v) => v,
+        RowKind::DenyIf => if bit_of(request, predicate) {
             Decision::D
         } else {
             Decision::U
         },
-        Kind::GrantIf => if bit_of(request, predicate) {
+        RowKind::GrantIf => if bit_of(request, predicate) {
             Decision::G
         } else {
             Decision::U
         },
-        Kind::One(op) => belnap::operators::apply_one(op, x),
-        Kind::Two(op) => belnap::operators::apply_two(op, x, y),
-        Kind::Compare(_) => Decision::U,
-        Kind::Not => Decision::U,
-        Kind::Both => Decision::U,
+        RowKind::One(op) => belnap::operators::apply_one(op, x),
+        RowKind::Two(op) => belnap::operators::apply_two(op, x, y),
     }
 }
 
 // The decisions of the rows below a number, each from those before it. A place not yet filled reads u.
 fn decide_below(t: Table, end: usize, request: u32) -> [Decision; Table::ROWS]
-    requires { ⌜ end ≤ 256 ⌝ }
-    ensures { λ r. ⌜ r ≡ padded U 256 (values (decides request) U (t .rows) end) ⌝ }
+    requires { ⌜ end ≤ rowLimit ⌝ }
+    ensures { λ r. ⌜ r ≡ padded U rowLimit (values (decides request) U (t .rows) end) ⌝ }
 {
     let mut d = [Decision::U; Table::ROWS];
     let mut i = 0;
     while i < end {
         let e = t.rows[i];
         let kind = e.kind;
+        let row_kind = kinds::as_row(kind);
         let predicate = e.a;
-        let a = entries::wide(e.a);
-        let b = entries::wide(e.b);
+        let a = entries::index(e.a);
+        let b = entries::index(e.b);
         let x = d[a];
         let y = d[b];
-        let v = decide_by(kind, predicate, request, x, y);
+        let v = decide_by(row_kind, predicate, request, x, y);
         d[i] = v;
         i += 1;
     }

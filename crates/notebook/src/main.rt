@@ -1,7 +1,6 @@
 // Runs every case of the old desk's notebook (01) that is not marked P, through the services, and prints each with what came back;
 // then takes rows out of tables, each as a part of the table, or with the companion's refusal.
 use libc::STDOUT_FILENO;
-use table::Outcome;
 use table::lookup;
 
 // Table A; question 2 asks if row 2 is free of conflict.
@@ -93,9 +92,9 @@ fn asks(name: &[u8], table: &[u8], question: u32, budget: u32) {
         refused(v.refusal, v.place);
         return;
     }
-    if v.reply == 1 {
+    if v.reply == pierstride::HOLDS {
         text(b"holds");
-    } else if v.reply == 2 {
+    } else if v.reply == pierstride::FAILS {
         text(b"fails, mask ");
         number(v.request as u64);
     } else {
@@ -149,17 +148,14 @@ fn takes(name: &[u8], table: &[u8], row: u32) {
     text(b", row ");
     number(row as u64);
     text(b":");
-    let outcome = lookup::entry_outcome(table, row);
-    match outcome {
-        Outcome::Read => {
-            bytes(lookup::entry(table, row));
-            text(b"\n");
-        }
-        Outcome::Refused(refusal, place) => {
-            text(b" ");
-            refused(refusal as u32, place);
-        }
+    let why = lookup::entry_refusal(table, row);
+    if why.number != 0 {
+        text(b" ");
+        refused(why.number as u32, why.place);
+        return;
     }
+    bytes(lookup::entry(table, row));
+    text(b"\n");
 }
 
 // 00 and 65 times 40 00 00.

@@ -8,27 +8,30 @@ use native.Mathlib.Omega.{arith}
 use lib.ListN.{length}
 use lib.Dec.{leb}
 use borrow.Author.Tests.{leb-false, lt-leb}
-use Rattle.table.specs.Reading.{Contents, Result, accepted, refused, reading}
+use Rattle.table.specs.declared.refusals.Refusal.{Refusal}
+use Rattle.table.specs.Said.{Said, answered, refusing, refusal, andThen, unless}
+use Rattle.table.specs.Contents.{Contents}
+use Rattle.table.specs.Reading.{reading}
 use Rattle.decide.specs.Meaning.{decision}
 use Rattle.possible.specs.Possible.{possible}
 use Rattle.walk.specs.Walk.{replyOf}
 use Rattle.pierstride.specs.Masks.{beyond, badMasks}
-use Rattle.pierstride.specs.Services.{Said, answered, refusing, onTable, askedWrongly, unlessWrong, decidedOf, remainingOf, repliedOf, walkOf}
+use Rattle.pierstride.specs.Services.{askedWrongly, decidedOf, remainingOf, repliedOf, walkOf}
 use Rattle.pierstride.specs.Services.{saysDecide, decideAnswer, saysPossible, possibleAnswer, saysVerdict, verdictAnswer}
 
 -- an answer speaks of an accepted table
-pub table-of : {A : Type 0} (s : List ℕ) (f : Contents → Said A) (v : A) → onTable (reading s) f ≡ answered v → (c : Contents) × (reading s ≡ accepted c)
+pub table-of : {A : Type 0} (s : List ℕ) (f : Contents → Said A) (v : A) → andThen (reading s) f ≡ answered v → (c : Contents) × (reading s ≡ answered c)
 table-of s f v = go (reading s) refl
   where
-    go : (x : Result) → reading s ≡ x → onTable x f ≡ answered v → (c : Contents) × (reading s ≡ accepted c)
-    go (accepted c) e q = (c, e)
-    go (refused n p) e q = absurd (let z : _≡_ {A = ℕ} 0 1 = cc in omega arith)
+    go : (x : Said Contents) → reading s ≡ x → andThen x f ≡ answered v → (c : Contents) × (reading s ≡ answered c)
+    go (answered c) e q = (c, e)
+    go (refusing why) e q = absurd (let z : _≡_ {A = ℕ} 0 1 = cc in omega arith)
 
 -- nothing was wrong with what was asked
-asked-well : {A B : Type 0} (shows : Said A → B) (refusal : B → ℕ) → ((n p : ℕ) → refusal (shows (refusing n p)) ≡ n) → (n : ℕ) (v : A) →
-    refusal (shows (unlessWrong n v)) ≡ 0 → n ≡ 0
-asked-well shows refusal h zero v e = refl
-asked-well shows refusal h (suc n) v e = absurd (omega (arith, e, h (suc n) 0))
+asked-well : {A B : Type 0} (shows : Said A → B) (number : B → ℕ) → ((why : Refusal) → number (shows (refusing why)) ≡ why .number) → (n : ℕ) (v : A) →
+    number (shows (unless n (answered v))) ≡ 0 → n ≡ 0
+asked-well shows number h zero v e = refl
+asked-well shows number h (suc n) v e = absurd (omega (arith, e, h (refusal (suc n) 0)))
 
 -- the number and the masks were good
 pub record Well (count at : ℕ) (bad : Bool) : Type 0 where
@@ -48,16 +51,16 @@ asked-right : (count at : ℕ) → at < count → askedWrongly (leb count at) fa
 asked-right count at h = rw (lt-leb count at h)
 
 -- the services on an accepted table
-module _ (s : List ℕ) (c : Contents) (is : reading s ≡ accepted c) where
+module _ (s : List ℕ) (c : Contents) (is : reading s ≡ answered c) where
   module _ (r request : ℕ) where
-    decide-says : saysDecide s r request ≡ unlessWrong (askedWrongly (leb (length (c .rows)) r) (beyond request)) (decision (c .rows) request r)
+    decide-says : saysDecide s r request ≡ unless (askedWrongly (leb (length (c .rows)) r) (beyond request)) (answered (decision (c .rows) request r))
     unfolding saysDecide
     decide-says = rw is
 
     pub decided : decideAnswer s r request .refusal ≡ 0 →
         Well (length (c .rows)) r (beyond request) × (decideAnswer s r request ≡ decidedOf (answered (decision (c .rows) request r)))
     decided e =
-        let n = asked-well decidedOf (λ a. a .refusal) (λ n p. refl) _ _ (rw decide-says at e) in
+        let n = asked-well decidedOf (λ a. a .refusal) (λ why. refl) _ _ (rw decide-says at e) in
         (well (length (c .rows)) r (beyond request) n, ap decidedOf decide-says ∙ rw n)
 
     pub decides : r < length (c .rows) → beyond request ≡ false → decideAnswer s r request ≡ decidedOf (answered (decision (c .rows) request r))
@@ -65,14 +68,14 @@ module _ (s : List ℕ) (c : Contents) (is : reading s ≡ accepted c) where
 
   module _ (r known request : ℕ) where
     possible-says : saysPossible s r known request ≡
-        unlessWrong (askedWrongly (leb (length (c .rows)) r) (badMasks known request)) (possible (c .rows) known request r)
+        unless (askedWrongly (leb (length (c .rows)) r) (badMasks known request)) (answered (possible (c .rows) known request r))
     unfolding saysPossible
     possible-says = rw is
 
     pub remained : possibleAnswer s r known request .refusal ≡ 0 →
         Well (length (c .rows)) r (badMasks known request) × (possibleAnswer s r known request ≡ remainingOf (answered (possible (c .rows) known request r)))
     remained e =
-        let n = asked-well remainingOf (λ a. a .refusal) (λ n p. refl) _ _ (rw possible-says at e) in
+        let n = asked-well remainingOf (λ a. a .refusal) (λ why. refl) _ _ (rw possible-says at e) in
         (well (length (c .rows)) r (badMasks known request) n, ap remainingOf possible-says ∙ rw n)
 
   pub replies : (q budget : ℕ) → q < length (c .questions) →

@@ -2,97 +2,99 @@
 -- and place, and a refusal keeps the lent output's bytes.
 -- Assumes nothing.
 use mathlib.Core.Path.{_≡_, refl, sym, _∙_}
-use mathlib.Core.Bool.{Bool, true, false, cond}
+use mathlib.Core.Bool.{Bool, true, false}
 use mathlib.Core.List.{List}
 use mathlib.Core.Logic.{inl, inr, ⊎-elim}
 use Prim.Native.Nat.{ℕ}
 use native.Mathlib.Omega.{arith}
 use lib.ListN.{length}
-use lib.Dec.{leb, ltb}
+use lib.Dec.{leb}
 use Rattle.belnap.proofs.Finite.{never}
-use Rattle.table.specs.declared.lookup.Place.the-variants.{At, Missing}
-use Rattle.table.specs.Reading.{Contents, Result, accepted, refused, reading, isAmong}
+use Rattle.table.specs.declared.refusals.Refusal.{Refusal}
+use Rattle.table.specs.Refusals.{notThere, badMask, ifMissing, isAmong}
+use Rattle.table.specs.Said.{Said, answered, refusing, andThen, unless}
+use Rattle.table.specs.Contents.{Contents}
+use Rattle.table.specs.Reading.{reading}
 use Rattle.table.specs.Lookup.{placeOf}
 use Rattle.table.proofs.Laws.{refused-within}
 use Rattle.walk.specs.declared.Reply.{Reply}
 use Rattle.walk.specs.declared.Reply.the-variants.{Holds, Fails, Unfinished}
-use Rattle.strike.specs.declared.Struck.{Struck}
-use Rattle.strike.specs.declared.Struck.the-variants.{Written, Refused}
-use Rattle.strike.specs.Strike.{missing, inUse, tooShort, struckAnswer}
+use Rattle.strike.specs.Strike.{missing, inUse, tooShort, strikeRefusal, struckAnswer}
 use Rattle.strike.proofs.Telling.{refused-keeps}
 use Rattle.pierstride.specs.Masks.{beyond, badMasks}
-use Rattle.pierstride.specs.Services.{Said, answered, refusing, onTable, askedWrongly, unlessWrong}
-use Rattle.pierstride.specs.Services.{countsOf, decidedOf, remainingOf, repliedOf, verdictOf, locatedOf, closedOf}
-use Rattle.pierstride.specs.Services.{saysRead, readAnswer, saysDecide, decideAnswer, saysPossible, possibleAnswer, saysVerdict, verdictAnswer}
-use Rattle.pierstride.specs.Services.{saysPlace, saysEntry, entryAnswer, saysStruck, saysStrike, strikeAnswer, strikeOutput}
+use Rattle.pierstride.specs.Services.{askedWrongly, countsOf, decidedOf, remainingOf, repliedOf, verdictOf, locatedOf, closedOf}
+use Rattle.pierstride.specs.Services.{readAnswer, saysDecide, decideAnswer, saysPossible, possibleAnswer, saysVerdict, verdictAnswer}
+use Rattle.pierstride.specs.Services.{saysEntry, entryAnswer, saysStrike, strikeAnswer, strikeOutput}
 use Rattle.pierstride.specs.Demands.{noOwn, ofDeciding, ofAsking, ofStriking, Due, Tells}
 
 -- what a call says is an answer, or a refusal that is due
 abbrev DueOf : {A : Type 0} → List ℕ → List ℕ → Said A → Type 0
 DueOf own s (answered v) = Unit {0}
-DueOf own s (refusing n p) = Due own s n p
+DueOf own s (refusing why) = Due own s (why .number) (why .place)
 
 never-zero : (own s : List ℕ) (n p : ℕ) → isAmong own 0 ≡ false → Due own s n p → n ≡ 0 → ⊥
 never-zero own s n p o d e =
     ⊎-elim (λ h. never (sym (rw e at (h .0)))) (λ h. never (sym (rw e at (h .0)) ∙ o)) d
 
 -- a struct that shows what a call says in its two first fields tells it
-tells : {A B : Type 0} (own s : List ℕ) (shows : Said A → B) (refusal place : B → ℕ) → isAmong own 0 ≡ false →
-    ((v : A) → (refusal (shows (answered v)) ≡ 0) × (place (shows (answered v)) ≡ 0)) →
-    ((n p : ℕ) → (refusal (shows (refusing n p)) ≡ n) × (place (shows (refusing n p)) ≡ p)) →
-    (said : Said A) → DueOf own s said → Tells own s said (refusal (shows said)) (place (shows said))
-tells own s shows refusal place o a r (answered v) d = record {
+tells : {A B : Type 0} (own s : List ℕ) (shows : Said A → B) (number place : B → ℕ) → isAmong own 0 ≡ false →
+    ((v : A) → (number (shows (answered v)) ≡ 0) × (place (shows (answered v)) ≡ 0)) →
+    ((why : Refusal) → (number (shows (refusing why)) ≡ why .number) × (place (shows (refusing why)) ≡ why .place)) →
+    (said : Said A) → DueOf own s said → Tells own s said (number (shows said)) (place (shows said))
+tells own s shows number place o a r (answered v) d = record {
   answers = λ e. (v, refl);
   none = λ w e. a v;
   refuses = λ h. absurd (h (a v .0));
 }
-tells own s shows refusal place o a r (refusing n p) d = record {
-  answers = λ e. absurd (never-zero own s n p o d (sym (r n p .0) ∙ e));
+tells own s shows number place o a r (refusing why) d = record {
+  answers = λ e. absurd (never-zero own s (why .number) (why .place) o d (sym (r why .0) ∙ e));
   none = λ w e. absurd (let z : _≡_ {A = ℕ} 0 1 = cc in omega arith);
-  refuses = λ h. rw (r n p .0, r n p .1) (refl, d);
+  refuses = λ h. rw (r why .0, r why .1) (refl, d);
 }
 
 -- reading's own refusal, or what is said of the contents
-on-table : {A : Type 0} (own s : List ℕ) (f : Contents → Said A) → ((c : Contents) → DueOf own s (f c)) → DueOf own s (onTable (reading s) f)
+on-table : {A : Type 0} (own s : List ℕ) (f : Contents → Said A) → ((c : Contents) → DueOf own s (f c)) → DueOf own s (andThen (reading s) f)
 on-table own s f h = go (reading s) refl
   where
-    go : (x : Result) → reading s ≡ x → DueOf own s (onTable x f)
-    go (accepted c) e = h c
-    go (refused n p) e = inl (refused-within s n p e)
+    go : (x : Said Contents) → reading s ≡ x → DueOf own s (andThen x f)
+    go (answered c) e = h c
+    go (refusing why) e = inl (refused-within s (why .number) (why .place) e)
 
 -- 8, then 10
-asked : {A : Type 0} (own s : List ℕ) (missing bad : Bool) (v : A) → isAmong own 8 ≡ true → (bad ≡ true → isAmong own 10 ≡ true) →
-    DueOf own s (unlessWrong (askedWrongly missing bad) v)
+asked : {A : Type 0} (own s : List ℕ) (missing bad : Bool) (v : A) → isAmong own notThere ≡ true → (bad ≡ true → isAmong own badMask ≡ true) →
+    DueOf own s (unless (askedWrongly missing bad) (answered v))
 asked own s true bad v e f = inr (e, refl)
 asked own s false true v e f = inr (f refl, refl)
 asked own s false false v e f = tt
 
 -- each service
-pub read-tells : (s : List ℕ) → Tells noOwn s (saysRead s) (readAnswer s .refusal) (readAnswer s .place)
-unfolding saysRead
-read-tells s =
-    tells noOwn s countsOf (λ a. a .refusal) (λ a. a .place) refl (λ v. (refl, refl)) (λ n p. (refl, refl)) (saysRead s) (on-table noOwn s answered (λ c. tt))
+pub read-tells : (s : List ℕ) → Tells noOwn s (reading s) (readAnswer s .refusal) (readAnswer s .place)
+read-tells s = tells noOwn s countsOf (λ a. a .refusal) (λ a. a .place) refl (λ v. (refl, refl)) (λ why. (refl, refl)) (reading s) (go (reading s) refl)
+  where
+    go : (x : Said Contents) → reading s ≡ x → DueOf noOwn s x
+    go (answered c) e = tt
+    go (refusing why) e = inl (refused-within s (why .number) (why .place) e)
 
 pub decide-tells : (s : List ℕ) (r request : ℕ) →
     Tells ofDeciding s (saysDecide s r request) (decideAnswer s r request .refusal) (decideAnswer s r request .place)
 unfolding saysDecide
 decide-tells s r request =
-    tells ofDeciding s decidedOf (λ a. a .refusal) (λ a. a .place) refl (λ v. (refl, refl)) (λ n p. (refl, refl)) (saysDecide s r request)
+    tells ofDeciding s decidedOf (λ a. a .refusal) (λ a. a .place) refl (λ v. (refl, refl)) (λ why. (refl, refl)) (saysDecide s r request)
     (on-table ofDeciding s _ (λ c. asked ofDeciding s (leb (length (c .rows)) r) (beyond request) _ refl (λ e. refl)))
 
 pub possible-tells : (s : List ℕ) (r known request : ℕ) →
     Tells ofDeciding s (saysPossible s r known request) (possibleAnswer s r known request .refusal) (possibleAnswer s r known request .place)
 unfolding saysPossible
 possible-tells s r known request =
-    tells ofDeciding s remainingOf (λ a. a .refusal) (λ a. a .place) refl (λ v. (refl, refl)) (λ n p. (refl, refl)) (saysPossible s r known request)
+    tells ofDeciding s remainingOf (λ a. a .refusal) (λ a. a .place) refl (λ v. (refl, refl)) (λ why. (refl, refl)) (saysPossible s r known request)
     (on-table ofDeciding s _ (λ c. asked ofDeciding s (leb (length (c .rows)) r) (badMasks known request) _ refl (λ e. refl)))
 
 pub verdict-tells : (s : List ℕ) (q budget : ℕ) →
     Tells ofAsking s (saysVerdict s q budget) (verdictAnswer s q budget .refusal) (verdictAnswer s q budget .place)
 unfolding saysVerdict
 verdict-tells s q budget =
-    tells ofAsking s verdictOf (λ a. a .refusal) (λ a. a .place) refl answering (λ n p. (refl, refl)) (saysVerdict s q budget)
-    (on-table ofAsking s _ (λ c. asked ofAsking s (leb (length (c .questions)) q) false _ refl (λ e. absurd (let z : _≡_ {A = ℕ} 0 1 = cc in omega arith))))
+    tells ofAsking s verdictOf (λ a. a .refusal) (λ a. a .place) refl answering (λ why. (refl, refl)) (saysVerdict s q budget)
+    (on-table ofAsking s _ (λ c. asked ofAsking s (leb (length (c .questions)) q) false _ refl (λ e. never (sym e))))
   where
     answering : (reply : Reply) → (repliedOf reply .refusal ≡ 0) × (repliedOf reply .place ≡ 0)
     answering (Holds n) = (refl, refl)
@@ -102,35 +104,27 @@ verdict-tells s q budget =
 pub entry-tells : (s : List ℕ) (r : ℕ) → Tells ofAsking s (saysEntry s r) (entryAnswer s r .refusal) (entryAnswer s r .place)
 unfolding placeOf
 entry-tells s r =
-    tells ofAsking s locatedOf (λ a. a .refusal) (λ a. a .place) refl (λ v. (refl, refl)) (λ n p. (refl, refl)) (saysEntry s r) (go (reading s) refl)
-  where
-    there : (b : Bool) (start n : ℕ) → DueOf ofAsking s (saysPlace (cond b (At start n) (Missing 8 0)))
-    there true start n = tt
-    there false start n = inr (refl, refl)
+    tells ofAsking s locatedOf (λ a. a .refusal) (λ a. a .place) refl (λ v. (refl, refl)) (λ why. (refl, refl)) (saysEntry s r)
+    (on-table ofAsking s _ (λ c. asked ofAsking s (leb (length (c .rows)) r) false _ refl (λ e. never (sym e))))
 
-    go : (x : Result) → reading s ≡ x → DueOf ofAsking s (saysPlace (placeOf x r))
-    go (accepted c) e = there (ltb r (length (c .rows))) _ _
-    go (refused n p) e = inl (refused-within s n p e)
+-- 8, then 9 and 11
+struck-due : (s : List ℕ) (absent named short : Bool) (n : ℕ) →
+    DueOf ofStriking s (unless (ifMissing absent) (unless (strikeRefusal named short) (answered n)))
+struck-due s true named short n = inr (refl, refl)
+struck-due s false true short n = inr (refl, refl)
+struck-due s false false true n = inr (refl, refl)
+struck-due s false false false n = tt
 
 pub strike-tells : (s : List ℕ) (r : ℕ) (out : List ℕ) → Tells ofStriking s (saysStrike s r out) (strikeAnswer s r out .refusal) (strikeAnswer s r out .place)
 unfolding struckAnswer
 strike-tells s r out =
-    tells ofStriking s closedOf (λ a. a .refusal) (λ a. a .place) refl (λ v. (refl, refl)) (λ n p. (refl, refl)) (saysStrike s r out) (go (reading s) refl)
-  where
-    each : (a b c : Bool) (n : ℕ) → DueOf ofStriking s (saysStruck (cond a (Refused 8 0) (cond b (Refused 9 0) (cond c (Refused 11 0) (Written n)))))
-    each true b c n = inr (refl, refl)
-    each false true c n = inr (refl, refl)
-    each false false true n = inr (refl, refl)
-    each false false false n = tt
-
-    go : (x : Result) → reading s ≡ x → DueOf ofStriking s (saysStruck (struckAnswer x r (length out)))
-    go (accepted c) e = each (missing r c) (inUse r c) (tooShort (length out) r c) _
-    go (refused n p) e = inl (refused-within s n p e)
+    tells ofStriking s closedOf (λ a. a .refusal) (λ a. a .place) refl (λ v. (refl, refl)) (λ why. (refl, refl)) (saysStrike s r out)
+    (on-table ofStriking s _ (λ c. struck-due s (missing r c) (inUse r c) (tooShort (length out) r c) _))
 
 -- "the lent output keeps its old bytes"
 pub refusal-keeps-output : (s : List ℕ) (r : ℕ) (out : List ℕ) → (strikeAnswer s r out .refusal ≡ 0 → ⊥) → strikeOutput s r out ≡ out
-refusal-keeps-output s r out h = go (struckAnswer (reading s) r (length out)) refl h
+refusal-keeps-output s r out h = go (saysStrike s r out) refl h
   where
-    go : (a : Struck) → struckAnswer (reading s) r (length out) ≡ a → (closedOf (saysStruck a) .refusal ≡ 0 → ⊥) → strikeOutput s r out ≡ out
-    go (Written n) e h = absurd (h refl)
-    go (Refused n p) e h = refused-keeps (reading s) r out n p e
+    go : (a : Said ℕ) → saysStrike s r out ≡ a → (closedOf a .refusal ≡ 0 → ⊥) → strikeOutput s r out ≡ out
+    go (answered n) e h = absurd (h refl)
+    go (refusing why) e h = refused-keeps (reading s) r out why e

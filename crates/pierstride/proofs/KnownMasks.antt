@@ -36,4 +36,5 @@ module _ (known request : ℕ) where
   known-never i zero e l = absurd (omega arith)
   known-never i (suc n) e l =
       let ih = known-never i n e in
-      by-order i n (λ h. rw (ih h)) (λ h. let q : n ≡ i = omega arith in rw (q, unknown-yes (bit request i) (bit known i) e) (and-false (knownBelow i known request)))
+      by-order i n (λ h. rw (ih h)) (λ h. let q : n ≡ i = omega arith in rw (q, unknown-yes (bit request i) (bit known i) e)
+      (and-false (knownBelow i known request)))

@@ -3,7 +3,7 @@
 -- numbers.
 -- Assumes nothing.
 use mathlib.Core.Path.{_≡_, refl, sym, ap, _∙_}
-use mathlib.Core.Bool.{true, false}
+use mathlib.Core.Bool.{true}
 use mathlib.Core.List.{List}
 use Prim.Native.Nat.{ℕ, suc, _+_, _-_, _^_, _≤_, _<_}
 use native.Mathlib.Omega.{arith}
@@ -14,24 +14,25 @@ use Rattle.belnap.specs.declared.Decision.{Decision}
 use Rattle.belnap.specs.Decisions.{code, coded}
 use Rattle.belnap.proofs.Codes.{coded-code}
 use Rattle.belnap.proofs.Finite.{never}
+use Rattle.table.specs.Said.{answered}
+use Rattle.table.specs.Kinds.{asRow}
 use Rattle.table.specs.Entries.{blank}
-use Rattle.table.specs.Reading.{Contents, accepted, reading, predicates}
+use Rattle.table.specs.Contents.{Contents, predicates}
+use Rattle.table.specs.Reading.{reading}
 use Rattle.table.proofs.Numbers.{by-order}
-use Rattle.table.proofs.Laws.{row-sound}
+use Rattle.table.proofs.Laws.{covered}
 use Rattle.table.specs.Whole.{Whole}
 use Rattle.table.proofs.Writing.{of-accepted}
 use Rattle.decide.specs.Meaning.{decideBy, decision}
 use Rattle.decide.specs.Reach.{reaches}
 use Rattle.decide.specs.Requests.{Agree}
 use Rattle.decide.proofs.Independence.{independent}
-use Rattle.decide.proofs.Rules.{operands, by-rule}
+use Rattle.decide.proofs.Rules.{row-named, operands, by-rule}
 use Rattle.walk.specs.declared.Reply.the-variants.{Holds, Fails, Unfinished}
 use Rattle.walk.specs.Order.{comesBefore}
 use Rattle.walk.specs.Walk.{Found, nothing, breaking, visits, replyOf}
 use Rattle.walk.proofs.Replies.{reply-within, reply-beyond}
 use Rattle.walk.proofs.Answers.{nothing-holds, breaking-first}
-use Rattle.strike.specs.declared.Struck.{Struck}
-use Rattle.strike.specs.declared.Struck.the-variants.{Written, Refused}
 use Rattle.strike.specs.Strike.{lower, struck, struckAnswer}
 use Rattle.strike.proofs.Renumbering.{lower-above, lower-below}
 use Rattle.strike.proofs.Laws.{struck-rows, struck-questions}
@@ -39,18 +40,18 @@ use Rattle.strike.proofs.Telling.{Done, done-of, struck-read}
 use Rattle.strike.proofs.Keeping.{decides-as-before, possible-as-before, verdict-kept}
 use Rattle.pierstride.specs.declared.Decided.{Decided}
 use Rattle.pierstride.specs.declared.Verdict.{Verdict}
-use Rattle.pierstride.specs.Services.{answered, decidedOf, repliedOf, walkOf, saysStruck}
-use Rattle.pierstride.specs.Services.{saysRead, readAnswer, saysDecide, decideAnswer, saysPossible}
+use Rattle.pierstride.specs.Services.{holding, failing, unfinished, decidedOf, repliedOf, walkOf}
+use Rattle.pierstride.specs.Services.{readAnswer, saysDecide, decideAnswer, saysPossible}
 use Rattle.pierstride.specs.Services.{possibleAnswer, saysVerdict, verdictAnswer, strikeAnswer, strikeOutput}
 use Rattle.pierstride.specs.Demands.{Breaks}
 use Rattle.pierstride.proofs.Answered.{decided, decides, replies}
 use Rattle.pierstride.proofs.FirstDemand.{strike-tells}
 
 -- "Decisions are those of PBel as 01 condenses it": a row's code is that of its kind's rule, over what the same call answers for the rows that it names
-pub decide-by-rule : (s : List ℕ) (c : Contents) → reading s ≡ accepted c → (r request : ℕ) → decideAnswer s r request .refusal ≡ 0 →
+pub decide-by-rule : (s : List ℕ) (c : Contents) → reading s ≡ answered c → (r request : ℕ) → decideAnswer s r request .refusal ≡ 0 →
     let e = getD (c .rows) r blank in
     decideAnswer s r request .code ≡
-    code (decideBy (e .kind) (e .a) request (coded (decideAnswer s (e .a) request .code)) (coded (decideAnswer s (e .b) request .code)))
+    code (decideBy (asRow (e .kind)) (e .a) request (coded (decideAnswer s (e .a) request .code)) (coded (decideAnswer s (e .b) request .code)))
 decide-by-rule s c is r request told =
     let e = getD (c .rows) r blank in
     let d = decided s c is r request told in
@@ -60,10 +61,10 @@ decide-by-rule s c is r request told =
     sym (ap (λ (a : Decided). coded (a .code)) lower ∙ coded-code (decision (c .rows) request x)) in
     ap (λ (a : Decided). a .code) (d .1)
     ∙ ap code (by-rule s c is r request (d .0 .there)
-    ∙ operands (e .kind) (e .a) (e .b) r request _ _ _ _ (row-sound s c is r (d .0 .there)) (lower (e .a)) (lower (e .b)))
+    ∙ operands (asRow (e .kind)) (e .a) (e .b) r request _ _ _ _ (row-named s c is r (d .0 .there)) (lower (e .a)) (lower (e .b)))
 
 -- "Two requests that agree on every predicate that a row reaches … get the same decision from it"
-pub decide-independent : (s : List ℕ) (c : Contents) → reading s ≡ accepted c → (r m o : ℕ) → Agree (reaches (c .rows) r) m o →
+pub decide-independent : (s : List ℕ) (c : Contents) → reading s ≡ answered c → (r m o : ℕ) → Agree (reaches (c .rows) r) m o →
     decideAnswer s r m .refusal ≡ 0 → decideAnswer s r o .refusal ≡ 0 → decideAnswer s r m ≡ decideAnswer s r o
 decide-independent s c is r m o agree p q =
     decided s c is r m p .1 ∙ ap (λ (v : Decision). decidedOf (answered v)) (independent (c .rows) m o r agree) ∙ sym (decided s c is r o q .1)
@@ -83,41 +84,41 @@ pub unlike : {P : Type 0} (v w : Verdict) (k : ℕ) → v ≡ w → v .reply ≡
 unlike v w k q e h = absurd (h (sym (ap (λ (v : Verdict). v .reply) q) ∙ e))
 
 -- "A question holds exactly if no request breaks it; otherwise, budget permitting, you show the first request that does, in 01's order."
-module _ (s : List ℕ) (c : Contents) (is : reading s ≡ accepted c) (q b : ℕ) (there : q < length (c .questions)) where
+module _ (s : List ℕ) (c : Contents) (is : reading s ≡ answered c) (q b : ℕ) (there : q < length (c .questions)) where
   abbrev answer : Verdict
   answer = verdictAnswer s q b
 
   abbrev n : ℕ
-  n = predicates (c .rows)
+  n = predicates c
 
-  pub holds-means : answer .reply ≡ 1 → (o : ℕ) → Breaks c q o → ⊥
+  pub holds-means : answer .reply ≡ holding → (o : ℕ) → Breaks c q o → ⊥
   holds-means e o broken =
       by-reply b (walkOf c q) answer (replies s c is q b there)
-      (λ k w l v. never (sym (nothing-holds (c .rows) (c .questions) q k w o) ∙ broken))
-      (λ m k w l v. unlike answer _ 1 v e (λ z. omega arith))
-      (λ l v. unlike answer _ 1 v e (λ z. omega arith))
+      (λ k w l v. never (sym (nothing-holds (c .rows) (c .questions) n (covered c) q k w o) ∙ broken))
+      (λ m k w l v. unlike answer _ holding v e (λ z. omega arith))
+      (λ l v. unlike answer _ holding v e (λ z. omega arith))
 
-  pub holds-if : (answer .reply ≡ 3 → ⊥) → ((o : ℕ) → o < 2 ^ n → Breaks c q o → ⊥) → answer .reply ≡ 1
+  pub holds-if : (answer .reply ≡ unfinished → ⊥) → ((o : ℕ) → o < 2 ^ n → Breaks c q o → ⊥) → answer .reply ≡ holding
   holds-if enough kept =
       by-reply b (walkOf c q) answer (replies s c is q b there)
       (λ k w l v. ap (λ (v : Verdict). v .reply) v)
-      (λ m k w l v. let f = breaking-first (c .rows) (c .questions) q m k w in absurd (kept m (f .1) (f .0)))
+      (λ m k w l v. let f = breaking-first (c .rows) (c .questions) n (covered c) q m k w in absurd (kept m (f .1) (f .0)))
       (λ l v. absurd (enough (ap (λ (v : Verdict). v .reply) v)))
 
-  pub fails-means : answer .reply ≡ 2 →
+  pub fails-means : answer .reply ≡ failing →
       Breaks c q (answer .request) × (answer .request < 2 ^ n) × ((more o : ℕ) → comesBefore (n + more) o (answer .request) ≡ true → Breaks c q o → ⊥)
   fails-means e =
       by-reply b (walkOf c q) answer (replies s c is q b there)
-      (λ k w l v. unlike answer _ 2 v e (λ z. omega arith))
+      (λ k w l v. unlike answer _ failing v e (λ z. omega arith))
       (λ m k w l v.
-      let f = breaking-first (c .rows) (c .questions) q m k w in
+      let f = breaking-first (c .rows) (c .questions) n (covered c) q m k w in
       rw (ap (λ (v : Verdict). v .request) v) (f .0, f .1, λ more o h broken. never (sym (f .2 more o h) ∙ broken)))
-      (λ l v. unlike answer _ 2 v e (λ z. omega arith))
+      (λ l v. unlike answer _ failing v e (λ z. omega arith))
 
-  pub fails-if : (answer .reply ≡ 3 → ⊥) → (o : ℕ) → Breaks c q o → answer .reply ≡ 2
+  pub fails-if : (answer .reply ≡ unfinished → ⊥) → (o : ℕ) → Breaks c q o → answer .reply ≡ failing
   fails-if enough o broken =
       by-reply b (walkOf c q) answer (replies s c is q b there)
-      (λ k w l v. never (sym (nothing-holds (c .rows) (c .questions) q k w o) ∙ broken))
+      (λ k w l v. never (sym (nothing-holds (c .rows) (c .questions) n (covered c) q k w o) ∙ broken))
       (λ m k w l v. ap (λ (v : Verdict). v .reply) v)
       (λ l v. absurd (enough (ap (λ (v : Verdict). v .reply) v)))
 
@@ -140,12 +141,8 @@ module _ (s out : List ℕ) (r : ℕ) (done : strikeAnswer s r out .refusal ≡ 
   abbrev pub new : List ℕ
   new = take (strikeAnswer s r out .length) (strikeOutput s r out)
 
-  written-of : (a : Struck) (n : ℕ) → saysStruck a ≡ answered n → a ≡ Written n
-  written-of (Written m) n e = let q : m ≡ n = cc in ap Written q
-  written-of (Refused m p) n e = absurd (let z : _≡_ {A = ℕ} 0 1 = cc in omega arith)
-
-  wrote : (n : ℕ) × (struckAnswer (reading s) r (length out) ≡ Written n)
-  wrote = let a = strike-tells s r out .answers done in (a .0, written-of _ (a .0) (a .1))
+  wrote : (n : ℕ) × (struckAnswer (reading s) r (length out) ≡ answered n)
+  wrote = strike-tells s r out .answers done
 
   of : Done (reading s) r (length out) (wrote .0)
   of = done-of (reading s) r (length out) (wrote .0) (wrote .1)
@@ -153,7 +150,7 @@ module _ (s out : List ℕ) (r : ℕ) (done : strikeAnswer s r out .refusal ≡ 
   whole : Whole (of .contents)
   whole = of-accepted s (of .contents) (of .is) .0
 
-  new-read : reading new ≡ accepted (struck r (of .contents))
+  new-read : reading new ≡ answered (struck r (of .contents))
   unfolding of
   new-read = rw (wrote .1) (struck-read s r out (wrote .0) (wrote .1) .0)
 
@@ -175,7 +172,6 @@ module _ (s out : List ℕ) (r : ℕ) (done : strikeAnswer s r out .refusal ≡ 
 
   -- one row fewer, and every question
   pub strike-counts : (readAnswer s .rows ≡ suc (readAnswer new .rows)) × (readAnswer new .questions ≡ readAnswer s .questions)
-  unfolding saysRead
   strike-counts = rw (new-read, of .is) (sym (struck-rows r (of .contents) (of .there)), struck-questions r (of .contents))
 
   -- "bytes behind the last stay"

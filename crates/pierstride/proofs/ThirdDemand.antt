@@ -14,7 +14,11 @@ use Rattle.belnap.specs.declared.Decision.{Decision}
 use Rattle.belnap.specs.Decisions.{code, coded}
 use Rattle.belnap.proofs.Codes.{code-coded}
 use Rattle.belnap.proofs.Finite.{never}
-use Rattle.table.specs.Reading.{Contents, Result, accepted, refused, reading, predicates}
+use Rattle.table.specs.Said.{Said, answered, refusing, andThen, unless}
+use Rattle.table.specs.Entries.{predicateLimit}
+use Rattle.table.specs.Contents.{Contents, predicates}
+use Rattle.table.specs.Reading.{reading}
+use Rattle.table.proofs.Laws.{covered}
 use Rattle.table.proofs.Numbers.{by-order}
 use Rattle.decide.specs.Meaning.{bit, decision}
 use Rattle.decide.specs.Requests.{Fills, Learns, AllKnown}
@@ -30,47 +34,46 @@ use Rattle.pierstride.specs.declared.Decided.{Decided}
 use Rattle.pierstride.specs.declared.Remaining.{Remaining}
 use Rattle.pierstride.specs.declared.Verdict.{Verdict}
 use Rattle.pierstride.specs.Masks.{beyond, knownBelow}
-use Rattle.pierstride.specs.Services.{onTable, askedWrongly, unlessWrong, repliedOf, verdictOf, walkOf}
-use Rattle.pierstride.specs.Services.{saysRead, readAnswer, decideAnswer, saysPossible, possibleAnswer, saysVerdict, verdictAnswer}
+use Rattle.pierstride.specs.Services.{askedWrongly, unfinished, repliedOf, verdictOf, walkOf}
+use Rattle.pierstride.specs.Services.{readAnswer, decideAnswer, saysPossible, possibleAnswer, saysVerdict, verdictAnswer}
 use Rattle.pierstride.specs.Demands.{needed}
 use Rattle.pierstride.proofs.Answered.{table-of, decided, decides, remained, replies}
 use Rattle.pierstride.proofs.FirstDemand.{possible-tells}
 use Rattle.pierstride.proofs.SecondDemand.{by-reply, unlike}
 
 -- the verdict from a reading on
-abbrev fromReading : ℕ → ℕ → Result → Verdict
+abbrev fromReading : ℕ → ℕ → Said Contents → Verdict
 fromReading q budget x =
-    verdictOf (onTable x (λ c. unlessWrong (askedWrongly (leb (length (c .questions)) q) false) (replyOf budget (walkOf c q))))
+    verdictOf (andThen x (λ c. unless (askedWrongly (leb (length (c .questions)) q) false) (answered (replyOf budget (walkOf c q)))))
 
--- "if some budget brings a verdict, every larger budget brings the same verdict, the same first request and the same count of visits" (3 is the reply of an
--- unfinished walk)
-pub verdict-never-unsaid : (s : List ℕ) (q b more : ℕ) → b ≤ more → (verdictAnswer s q b .reply ≡ 3 → ⊥) → verdictAnswer s q more ≡ verdictAnswer s q b
+-- "if some budget brings a verdict, every larger budget brings the same verdict, the same first request and the same count of visits"
+pub verdict-never-unsaid : (s : List ℕ) (q b more : ℕ) → b ≤ more → (verdictAnswer s q b .reply ≡ unfinished → ⊥) → verdictAnswer s q more ≡ verdictAnswer s q b
 unfolding saysVerdict
 verdict-never-unsaid s q b more l h = on (reading s) h
   where
-    asked : (n : ℕ) (w : Found) → (verdictOf (unlessWrong n (replyOf b w)) .reply ≡ 3 → ⊥) →
-        verdictOf (unlessWrong n (replyOf more w)) ≡ verdictOf (unlessWrong n (replyOf b w))
+    asked : (n : ℕ) (w : Found) → (verdictOf (unless n (answered (replyOf b w))) .reply ≡ unfinished → ⊥) →
+        verdictOf (unless n (answered (replyOf more w))) ≡ verdictOf (unless n (answered (replyOf b w)))
     asked zero w h = ap repliedOf (more-never-unsays b more w l (λ e. h (ap (λ (v : Reply). repliedOf v .reply) e)))
     asked (suc n) w h = refl
 
-    on : (x : Result) → (fromReading q b x .reply ≡ 3 → ⊥) → fromReading q more x ≡ fromReading q b x
-    on (accepted c) h = asked (askedWrongly (leb (length (c .questions)) q) false) (walkOf c q) h
-    on (refused n p) h = refl
+    on : (x : Said Contents) → (fromReading q b x .reply ≡ unfinished → ⊥) → fromReading q more x ≡ fromReading q b x
+    on (answered c) h = asked (askedWrongly (leb (length (c .questions)) q) false) (walkOf c q) h
+    on (refusing why) h = refl
 
 -- "A budget is too small exactly if 01's walk needs more visits, and 2^(n+1) - 1 visits are always enough for n predicates."
-module _ (s : List ℕ) (c : Contents) (is : reading s ≡ accepted c) (q b : ℕ) (there : q < length (c .questions)) where
+module _ (s : List ℕ) (c : Contents) (is : reading s ≡ answered c) (q b : ℕ) (there : q < length (c .questions)) where
   abbrev answer : Verdict
   answer = verdictAnswer s q b
 
   -- "unfinished, with the budget as the count"
-  pub unfinished-means : answer .reply ≡ 3 → (b < needed c q) × (answer .visits ≡ b)
+  pub unfinished-means : answer .reply ≡ unfinished → (b < needed c q) × (answer .visits ≡ b)
   unfinished-means e =
       by-reply b (walkOf c q) answer (replies s c is q b there)
-      (λ k w l v. unlike answer _ 3 v e (λ z. omega arith))
-      (λ m k w l v. unlike answer _ 3 v e (λ z. omega arith))
+      (λ k w l v. unlike answer _ unfinished v e (λ z. omega arith))
+      (λ m k w l v. unlike answer _ unfinished v e (λ z. omega arith))
       (λ l v. (l, ap (λ (v : Verdict). v .visits) v))
 
-  pub unfinished-if : b < needed c q → answer .reply ≡ 3
+  pub unfinished-if : b < needed c q → answer .reply ≡ unfinished
   unfinished-if l =
       by-reply b (walkOf c q) answer (replies s c is q b there)
       (λ k w g v. absurd (omega (arith, ap visits w)))
@@ -78,31 +81,30 @@ module _ (s : List ℕ) (c : Contents) (is : reading s ≡ accepted c) (q b : �
       (λ g v. ap (λ (v : Verdict). v .reply) v)
 
   -- a verdict gives the walk's own count
-  pub verdict-counts : (answer .reply ≡ 3 → ⊥) → answer .visits ≡ needed c q
+  pub verdict-counts : (answer .reply ≡ unfinished → ⊥) → answer .visits ≡ needed c q
   verdict-counts enough =
       by-reply b (walkOf c q) answer (replies s c is q b there)
       (λ k w l v. ap (λ (v : Verdict). v .visits) v ∙ sym (ap visits w))
       (λ m k w l v. ap (λ (v : Verdict). v .visits) v ∙ sym (ap visits w))
       (λ l v. absurd (enough (ap (λ (v : Verdict). v .reply) v)))
 
-  pub always-enough : 2 ^ (readAnswer s .predicates + 1) - 1 ≤ b → answer .reply ≡ 3 → ⊥
-  unfolding saysRead
+  pub always-enough : 2 ^ (readAnswer s .predicates + 1) - 1 ≤ b → answer .reply ≡ unfinished → ⊥
   always-enough l e =
-      let n = predicates (c .rows) in
+      let n = predicates c in
       let m : readAnswer s .predicates ≡ n = rw is in
       let few : 2 ^ suc n - 1 ≤ b = rw (m, add-one n) at l in
       omega (arith, visits-bound (sees (c .rows) (c .questions) q) n 0 0, unfinished-means e .0, few)
 
 -- the set of a row, and its members: a decision counts two to the power of its code
 module _ (s : List ℕ) (r known request : ℕ) (left : possibleAnswer s r known request .refusal ≡ 0) where
-  of-table : (c : Contents) × (reading s ≡ accepted c)
+  of-table : (c : Contents) × (reading s ≡ answered c)
   unfolding saysPossible
   of-table = let a = possible-tells s r known request .answers left in table-of s _ (a .0) (a .1)
 
   abbrev pub set : ℕ
   set = possibleAnswer s r known request .set
 
-  module _ (c : Contents) (is : reading s ≡ accepted c) where
+  module _ (c : Contents) (is : reading s ≡ answered c) where
     set-is : set ≡ mask decisions (possible (c .rows) known request r)
     set-is = ap (λ (a : Remaining). a .set) (remained s c is r known request left .1)
 
@@ -118,15 +120,14 @@ module _ (s : List ℕ) (r known request : ℕ) (left : possibleAnswer s r known
 
   -- "with nothing unknown only the true decision is left"
   pub possible-exact : AllKnown (readAnswer s .predicates) known → (decideAnswer s r request .refusal ≡ 0) × (set ≡ 2 ^ (decideAnswer s r request .code))
-  unfolding saysRead
   possible-exact all =
       let c = of-table .0 in
       let is = of-table .1 in
       let w = remained s c is r known request left .0 in
       let v = decision (c .rows) request r in
-      let d = decides s c is r request (w .there) (request-good (beyond known) (beyond request) (knownBelow 24 known request) (w .good)) in
-      let n : readAnswer s .predicates ≡ predicates (c .rows) = rw is in
-      rw d (refl, set-is c is ∙ ap (mask decisions) (known-exact (c .rows) known request r (rw n at all)) ∙ single-mask v)
+      let d = decides s c is r request (w .there) (request-good (beyond known) (beyond request) (knownBelow predicateLimit known request) (w .good)) in
+      let n : readAnswer s .predicates ≡ predicates c = rw is in
+      rw d (refl, set-is c is ∙ ap (mask decisions) (known-exact (c .rows) (predicates c) (covered c) known request r (rw n at all)) ∙ single-mask v)
     where
       request-good : (a b d : Bool) → ((a || b) || not d) ≡ false → b ≡ false
       request-good true b d e = absurd (let z : _≡_ {A = ℕ} 0 1 = cc in omega arith)
@@ -139,7 +140,7 @@ pub possible-learns : (s : List ℕ) (r known request more then : ℕ) → Learn
     (i : ℕ) → bit (possibleAnswer s r more then .set) i ≡ true → bit (possibleAnswer s r known request .set) i ≡ true
 possible-learns s r known request more then learns now later i e = go (of-table s r known request now .0) (of-table s r known request now .1)
   where
-    decision-kept : (c : Contents) → reading s ≡ accepted c → i < 4 → bit (possibleAnswer s r known request .set) i ≡ true
+    decision-kept : (c : Contents) → reading s ≡ answered c → i < 4 → bit (possibleAnswer s r known request .set) i ≡ true
     decision-kept c is h =
         let v = coded i in
         let q : code v ≡ i = code-coded i h in
@@ -147,10 +148,10 @@ possible-learns s r known request more then learns now later i e = go (of-table 
         rw q at (set-has s r known request now c is v ∙ m)
 
     -- a set's mask has no bit from 4 up
-    none-above : (c : Contents) → reading s ≡ accepted c → 4 ≤ i → ⊥
+    none-above : (c : Contents) → reading s ≡ answered c → 4 ≤ i → ⊥
     none-above c is h =
         let small : possibleAnswer s r more then .set < 2 ^ 4 = rw (set-is s r more then later c is) (mask-below decisions (possible (c .rows) more then r)) in
         never (sym e ∙ bit-above (possibleAnswer s r more then .set) 4 i small h)
 
-    go : (c : Contents) → reading s ≡ accepted c → bit (possibleAnswer s r known request .set) i ≡ true
+    go : (c : Contents) → reading s ≡ answered c → bit (possibleAnswer s r known request .set) i ≡ true
     go c is = by-order i 4 (decision-kept c is) (λ h. absurd (none-above c is h))

@@ -5,33 +5,35 @@ use mathlib.Core.Bool.{true, false}
 use mathlib.Core.List.{List, [], _∷_}
 use mathlib.Core.Logic.{_⊎_}
 use lib.ListN.{length}
-use Rattle.table.specs.Reading.{Contents, ofReading, isAmong}
+use Rattle.table.specs.Refusals.{notThere, stillNamed, badMask, outputTooShort, ofReading, isAmong}
+use Rattle.table.specs.Said.{Said, answered, refusing, refusal}
+use Rattle.table.specs.Contents.{Contents}
 use Rattle.walk.specs.Questions.{truth}
 use Rattle.walk.specs.Walk.{visits}
-use Rattle.pierstride.specs.Services.{Said, answered, refusing, walkOf}
+use Rattle.pierstride.specs.Services.{walkOf}
 
 -- "one of 01's numbered refusals": each call's own, beside those of reading
 abbrev pub noOwn : List ℕ
 noOwn = []
 
 abbrev pub ofDeciding : List ℕ
-ofDeciding = 8 ∷ 10 ∷ []
+ofDeciding = notThere ∷ badMask ∷ []
 
 abbrev pub ofAsking : List ℕ
-ofAsking = 8 ∷ []
+ofAsking = notThere ∷ []
 
 abbrev pub ofStriking : List ℕ
-ofStriking = 8 ∷ 9 ∷ 11 ∷ []
+ofStriking = notThere ∷ stillNamed ∷ outputTooShort ∷ []
 
 -- "A refusal gives its number and place": one of reading's, at a place of the table, or one of the call's own, at 0
 abbrev pub Due : List ℕ → List ℕ → ℕ → ℕ → Type 0
 Due own s n p = ((isAmong ofReading n ≡ true) × (p < length s)) ⊎ ((isAmong own n ≡ true) × (p ≡ 0))
 
 -- `refusal` is 0 exactly if the call answered; otherwise it and `place` are those of a refusal that 01 gives the call
-pub record Tells {A : Type 0} (own s : List ℕ) (said : Said A) (refusal place : ℕ) : Type 0 where
-  pub answers : refusal ≡ 0 → (v : A) × (said ≡ answered v)
-  pub none : (v : A) → said ≡ answered v → (refusal ≡ 0) × (place ≡ 0)
-  pub refuses : (refusal ≡ 0 → ⊥) → (said ≡ refusing refusal place) × Due own s refusal place
+pub record Tells {A : Type 0} (own s : List ℕ) (said : Said A) (number place : ℕ) : Type 0 where
+  pub answers : number ≡ 0 → (v : A) × (said ≡ answered v)
+  pub none : (v : A) → said ≡ answered v → (number ≡ 0) × (place ≡ 0)
+  pub refuses : (number ≡ 0 → ⊥) → (said ≡ refusing (refusal number place)) × Due own s number place
 
 -- "A request breaks a question if it is false there."
 abbrev pub Breaks : Contents → ℕ → ℕ → Type 0

@@ -2,18 +2,17 @@
 // `refusal` is 01's number, 0 for none, and `place` its place; a field that says nothing in a case is 0.
 use strike::Struck;
 use table::Outcome;
+use table::Table;
 use table::lookup::Place;
+use table::refusals;
+use table::refusals::Refusal;
 use walk::Reply;
 ghost use mathlib.Core.Path.{_≡_};
 ghost use Rattle.pierstride.specs.Masks.{beyond, knownBelow, badMasks};
-ghost use Rattle.pierstride.specs.Services.{refusing, refusalOf, askedWrongly, countsOf, decidedOf, remainingOf, verdictOf, repliedOf};
+ghost use Rattle.table.specs.Said.{refusing};
+ghost use Rattle.table.specs.Entries.{predicateLimit};
+ghost use Rattle.pierstride.specs.Services.{askedWrongly, countsOf, decidedOf, remainingOf, verdictOf, repliedOf};
 ghost use Rattle.pierstride.specs.Services.{readAnswer, decideAnswer, possibleAnswer, verdictAnswer, entryAnswer, strikeAnswer, strikeOutput};
-
-// A refusal's number and place.
-pub struct Refusal {
-    pub number: u32,
-    pub place: usize,
-}
 
 // How many rows and questions a table has, and n.
 #[repr(C)]
@@ -41,7 +40,14 @@ pub struct Remaining {
     pub set: u32,
 }
 
-// The reply to a question: 1 holds, 2 fails with the breaking request, 3 unfinished.
+// The replies to a question.
+pub const HOLDS: u32 = 1;
+
+pub const FAILS: u32 = 2;
+
+pub const UNFINISHED: u32 = 3;
+
+// The reply to a question: it holds, it fails with the breaking request, or the walk is unfinished.
 #[repr(C)]
 pub struct Verdict {
     pub refusal: u32,
@@ -68,60 +74,44 @@ pub struct Closed {
     pub length: usize,
 }
 
-fn refusal_of(outcome: Outcome) -> Refusal
-    ensures { λ r. ⌜ r ≡ refusalOf outcome ⌝ }
-{
-    match outcome {
-        // no refusal: never passed on
-        Outcome::Read => Refusal {
-            number: 0,
-            place: 0,
-        },
-        Outcome::Refused(number, at) => Refusal {
-            number: number as u32,
-            place: at,
-        },
-    }
-}
-
-fn no_counts(r: Refusal) -> Counts
-    ensures { λ x. ⌜ x ≡ countsOf (refusing (r .number) (r .place)) ⌝ }
+fn no_counts(why: Refusal) -> Counts
+    ensures { λ x. ⌜ x ≡ countsOf (refusing why) ⌝ }
 {
     Counts {
-        refusal: r.number,
-        place: r.place,
+        refusal: why.number as u32,
+        place: why.place,
         rows: 0,
         questions: 0,
         predicates: 0,
     }
 }
 
-fn no_decision(r: Refusal) -> Decided
-    ensures { λ x. ⌜ x ≡ decidedOf (refusing (r .number) (r .place)) ⌝ }
+fn no_decision(why: Refusal) -> Decided
+    ensures { λ x. ⌜ x ≡ decidedOf (refusing why) ⌝ }
 {
     Decided {
-        refusal: r.number,
-        place: r.place,
+        refusal: why.number as u32,
+        place: why.place,
         code: 0,
     }
 }
 
-fn no_set(r: Refusal) -> Remaining
-    ensures { λ x. ⌜ x ≡ remainingOf (refusing (r .number) (r .place)) ⌝ }
+fn no_set(why: Refusal) -> Remaining
+    ensures { λ x. ⌜ x ≡ remainingOf (refusing why) ⌝ }
 {
     Remaining {
-        refusal: r.number,
-        place: r.place,
+        refusal: why.number as u32,
+        place: why.place,
         set: 0,
     }
 }
 
-fn no_verdict(r: Refusal) -> Verdict
-    ensures { λ x. ⌜ x ≡ verdictOf (refusing (r .number) (r .place)) ⌝ }
+fn no_verdict(why: Refusal) -> Verdict
+    ensures { λ x. ⌜ x ≡ verdictOf (refusing why) ⌝ }
 {
     Verdict {
-        refusal: r.number,
-        place: r.place,
+        refusal: why.number as u32,
+        place: why.place,
         reply: 0,
         request: 0,
         visits: 0,
@@ -136,33 +126,42 @@ pub extern "C" fn pier_read(table: &[u8]) -> Counts
     let got = table::read(table);
     let outcome = got.outcome;
     let Outcome::Read = outcome else {
-        return no_counts(refusal_of(outcome));
+        let why = got.why;
+        return no_counts(why);
     };
     let t = got.table;
+    let rows = t.tally.rows as u32;
+    let questions = t.tally.questions as u32;
+    let predicates = t.predicates as u32;
     Counts {
         refusal: 0,
         place: 0,
-        rows: t.used as u32,
-        questions: t.asked as u32,
-        predicates: t.predicates as u32,
+        rows,
+        questions,
+        predicates,
     }
 }
 
-// Whether a mask has a bit above 23.
+// How many predicates a mask has a bit for, and the least mask with a bit beyond them.
+const PREDICATES: u8 = Table::PREDICATES as u8;
+
+const MASKS: u32 = 1 << Table::PREDICATES;
+
+// Whether a mask has a bit beyond its predicates.
 fn mask_beyond(mask: u32) -> bool
     ensures { λ r. ⌜ r ≡ beyond mask ⌝ }
 {
-    16777216 <= mask
+    MASKS <= mask
 }
 
 // Why what was asked is not answered: 8 where the row or question is not there, then 10 where the masks are bad; 0 for neither.
-fn asked_wrongly(missing: bool, bad: bool) -> u32
+fn asked_wrongly(missing: bool, bad: bool) -> u8
     ensures { λ r. ⌜ r ≡ askedWrongly missing bad ⌝ }
 {
     if missing {
-        return 8;
+        return refusals::NOT_THERE;
     }
-    if bad { 10 } else { 0 }
+    if bad { refusals::BAD_MASK } else { 0 }
 }
 
 // What a row decides at a complete request, given as its yes mask.
@@ -173,16 +172,14 @@ pub extern "C" fn pier_decide(table: &[u8], row: u32, request: u32) -> Decided
     let got = table::read(table);
     let outcome = got.outcome;
     let Outcome::Read = outcome else {
-        return no_decision(refusal_of(outcome));
+        let why = got.why;
+        return no_decision(why);
     };
     let t = got.table;
     let at = row as usize;
-    let why = asked_wrongly(t.used <= at, mask_beyond(request));
+    let why = asked_wrongly(t.tally.rows <= at, mask_beyond(request));
     if why != 0 {
-        return no_decision(Refusal {
-            number: why,
-            place: 0,
-        });
+        return no_decision(Refusal::of(why));
     }
     let v = decide::decide(t, at, request);
     Decided {
@@ -194,10 +191,10 @@ pub extern "C" fn pier_decide(table: &[u8], row: u32, request: u32) -> Decided
 
 // Whether each predicate that is yes is known.
 fn all_known(known: u32, request: u32) -> bool
-    ensures { λ r. ⌜ r ≡ knownBelow 24 known request ⌝ }
+    ensures { λ r. ⌜ r ≡ knownBelow predicateLimit known request ⌝ }
 {
     let mut i = 0u8;
-    while i < 24 {
+    while i < PREDICATES {
         if decide::bit_of(request, i) & !decide::bit_of(known, i) {
             return false;
         }
@@ -221,16 +218,14 @@ pub extern "C" fn pier_possible(table: &[u8], row: u32, known: u32, request: u32
     let got = table::read(table);
     let outcome = got.outcome;
     let Outcome::Read = outcome else {
-        return no_set(refusal_of(outcome));
+        let why = got.why;
+        return no_set(why);
     };
     let t = got.table;
     let at = row as usize;
-    let why = asked_wrongly(t.used <= at, masks_bad(known, request));
+    let why = asked_wrongly(t.tally.rows <= at, masks_bad(known, request));
     if why != 0 {
-        return no_set(Refusal {
-            number: why,
-            place: 0,
-        });
+        return no_set(Refusal::of(why));
     }
     let set = possible::possible(t, at, known, request);
     Remaining {
@@ -248,21 +243,21 @@ fn replied(reply: Reply) -> Verdict
         Reply::Holds(visits) => Verdict {
             refusal: 0,
             place: 0,
-            reply: 1,
+            reply: HOLDS,
             request: 0,
             visits,
         },
         Reply::Fails(request, visits) => Verdict {
             refusal: 0,
             place: 0,
-            reply: 2,
+            reply: FAILS,
             request,
             visits,
         },
         Reply::Unfinished(visits) => Verdict {
             refusal: 0,
             place: 0,
-            reply: 3,
+            reply: UNFINISHED,
             request: 0,
             visits,
         },
@@ -277,16 +272,14 @@ pub extern "C" fn pier_verdict(table: &[u8], question: u32, budget: u32) -> Verd
     let got = table::read(table);
     let outcome = got.outcome;
     let Outcome::Read = outcome else {
-        return no_verdict(refusal_of(outcome));
+        let why = got.why;
+        return no_verdict(why);
     };
     let t = got.table;
     let at = question as usize;
-    let why = asked_wrongly(t.asked <= at, false);
+    let why = asked_wrongly(t.tally.questions <= at, false);
     if why != 0 {
-        return no_verdict(Refusal {
-            number: why,
-            place: 0,
-        });
+        return no_verdict(Refusal::of(why));
     }
     replied(walk::verdict(t, at, budget))
 }
@@ -298,15 +291,15 @@ pub extern "C" fn pier_entry(table: &[u8], row: u32) -> Located
 {
     let found = table::lookup::find(table, row);
     match found {
-        Place::At(start, length) => Located {
+        Place::At(part) => Located {
             refusal: 0,
             place: 0,
-            start,
-            length,
+            start: part.start,
+            length: part.length,
         },
-        Place::Missing(number, place) => Located {
-            refusal: number as u32,
-            place,
+        Place::Missing(why) => Located {
+            refusal: why.number as u32,
+            place: why.place,
             start: 0,
             length: 0,
         },
@@ -326,9 +319,9 @@ pub extern "C" fn pier_strike(table: &[u8], row: u32, out: &mut [u8]) -> Closed
             place: 0,
             length,
         },
-        Struck::Refused(number, place) => Closed {
-            refusal: number as u32,
-            place,
+        Struck::Refused(why) => Closed {
+            refusal: why.number as u32,
+            place: why.place,
             length: 0,
         },
     }

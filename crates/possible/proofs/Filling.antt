@@ -11,13 +11,14 @@ use Rattle.belnap.specs.declared.Decision.{Decision}
 use Rattle.belnap.specs.declared.Decision.the-variants.{U, D, G}
 use Rattle.belnap.specs.Operators.{one, two}
 use Rattle.belnap.proofs.Finite.{never}
-use Rattle.table.specs.declared.kinds.Kind.{Kind}
-use Rattle.table.specs.declared.kinds.Kind.the-variants.{Always, DenyIf, GrantIf, One, Two, Compare, Not, Both}
+use Rattle.table.specs.declared.kinds.RowKind.{RowKind}
+use Rattle.table.specs.declared.kinds.RowKind.the-variants.{Always, DenyIf, GrantIf, One, Two}
+use Rattle.table.specs.declared.kinds.Kind.the-variants.{Row}
 use Rattle.table.specs.declared.entries.Entry.{Entry}
-use Rattle.table.specs.Kinds.{formOf}
+use Rattle.table.specs.Kinds.{formOf, asRow}
 use Rattle.table.specs.Entries.{blank, usedBy}
-use Rattle.table.specs.Reading.{predicates}
-use Rattle.table.proofs.Laws.{used-below}
+use Rattle.table.specs.Contents.{Covers}
+use Rattle.table.proofs.Laws.{row-uses}
 use Rattle.decide.specs.Meaning.{bit, decideBy, decides, decision}
 use Rattle.decide.specs.Requests.{Fills, Learns, AllKnown}
 use Rattle.decide.proofs.RowByRow.{side-by-side}
@@ -42,7 +43,7 @@ fact-has v p known request o h = go (bit known p) refl
     go true e = rw (h p e) (single-has decisions (cond (bit request p) v U))
     go false e = either-way v (bit o p) (cond (bit o p) v U) (single-has decisions (cond (bit o p) v U))
 
-row-has : (k : Kind) (a known request o : ℕ) → Fills known request o → (x y : Decision) (s t : Set decisions) → s .has x ≡ true → t .has y ≡ true →
+row-has : (k : RowKind) (a known request o : ℕ) → Fills known request o → (x y : Decision) (s t : Set decisions) → s .has x ≡ true → t .has y ≡ true →
     setBy k a known request s t .has (decideBy k a o x y) ≡ true
 unfolding setBy decideBy
 row-has (Always v) a known request o h x y s t p q = single-has decisions v
@@ -50,14 +51,11 @@ row-has DenyIf a known request o h x y s t p q = fact-has D a known request o h
 row-has GrantIf a known request o h x y s t p q = fact-has G a known request o h
 row-has (One op) a known request o h x y s t p q = one-has decisions (one op) s x p
 row-has (Two op) a known request o h x y s t p q = two-has decisions (two op) s t x y p q
-row-has (Compare c) a known request o h x y s t p q = refl
-row-has Not a known request o h x y s t p q = refl
-row-has Both a known request o h x y s t p q = refl
 
 pub filling-member : (rows : List Entry) (known request o r : ℕ) → Fills known request o → possible rows known request r .has (decision rows o r) ≡ true
 filling-member rows known request o r h =
     side-by-side (λ x s. s .has x ≡ true) (decides o) (setOf known request) U (single U) rows refl
-    (λ i x y s t p q. row-has (getD rows i blank .kind) (getD rows i blank .a) known request o h x y s t p q) r
+    (λ i x y s t p q. row-has (asRow (getD rows i blank .kind)) (getD rows i blank .a) known request o h x y s t p q) r
 
 -- no set is empty: it has what is decided where every missing fact is as the request says
 pub member-there : (rows : List Entry) (known request r : ℕ) → possible rows known request r .has (decision rows request r) ≡ true
@@ -74,7 +72,7 @@ fact-within v p known request more then h = go (bit known p) refl (bit more p) r
     go false e true d = either-way v (bit then p)
     go false e false d = λ x q. q
 
-row-within : (k : Kind) (a known request more then : ℕ) → Learns known request more then → (s t u v : Set decisions) → Within s u → Within t v →
+row-within : (k : RowKind) (a known request more then : ℕ) → Learns known request more then → (s t u v : Set decisions) → Within s u → Within t v →
     Within (setBy k a more then s t) (setBy k a known request u v)
 unfolding setBy
 row-within (Always w) a known request more then h s t u v p q = λ x e. e
@@ -82,18 +80,15 @@ row-within DenyIf a known request more then h s t u v p q = fact-within D a know
 row-within GrantIf a known request more then h s t u v p q = fact-within G a known request more then h
 row-within (One op) a known request more then h s t u v p q = one-within decisions (one op) s u p
 row-within (Two op) a known request more then h s t u v p q = two-within decisions (two op) s t u v p q
-row-within (Compare c) a known request more then h s t u v p q = λ x e. e
-row-within Not a known request more then h s t u v p q = λ x e. e
-row-within Both a known request more then h s t u v p q = λ x e. e
 
 pub learning-adds-none : (rows : List Entry) (known request more then r : ℕ) → Learns known request more then →
     Within (possible rows more then r) (possible rows known request r)
 learning-adds-none rows known request more then r h =
     side-by-side Within (setOf more then) (setOf known request) (single U) (single U) rows (λ x e. e)
-    (λ i s t u v p q. row-within (getD rows i blank .kind) (getD rows i blank .a) known request more then h s t u v p q) r
+    (λ i s t u v p q. row-within (asRow (getD rows i blank .kind)) (getD rows i blank .a) known request more then h s t u v p q) r
 
 -- nothing that the rows use is unknown
-row-exact : (k : Kind) (a n known request : ℕ) → AllKnown n known → usedBy (formOf k .names) a ≤ n →
+row-exact : (k : RowKind) (a n known request : ℕ) → AllKnown n known → usedBy (formOf (Row k) .names) a ≤ n →
     (x y : Decision) (s t : Set decisions) → s ≡ single x → t ≡ single y → setBy k a known request s t ≡ single (decideBy k a request x y)
 unfolding setBy decideBy factSet
 row-exact (Always w) a n known request h u x y s t p q = refl
@@ -101,32 +96,28 @@ row-exact DenyIf a n known request h u x y s t p q = rw (h a (omega arith))
 row-exact GrantIf a n known request h u x y s t p q = rw (h a (omega arith))
 row-exact (One op) a n known request h u x y s t p q = ap (imageOne (one op)) p ∙ one-single decisions decisions (one op) x
 row-exact (Two op) a n known request h u x y s t p q = ap₂ (imageTwo (two op)) p q ∙ two-single decisions decisions (two op) x y
-row-exact (Compare c) a n known request h u x y s t p q = refl
-row-exact Not a n known request h u x y s t p q = refl
-row-exact Both a n known request h u x y s t p q = refl
 
-pub known-exact : (rows : List Entry) (known request r : ℕ) → AllKnown (predicates rows) known →
+pub known-exact : (rows : List Entry) (n : ℕ) → Covers n rows → (known request r : ℕ) → AllKnown n known →
     possible rows known request r ≡ single (decision rows request r)
-known-exact rows known request r h =
+known-exact rows n covers known request r h =
     side-by-side (λ s x. s ≡ single x) (setOf known request) (decides request) (single U) U rows refl
-    (λ i s t x y p q. row-exact (getD rows i blank .kind) (getD rows i blank .a) (predicates rows) known request h (used-below rows i) x y s t p q) r
+    (λ i s t x y p q. let e = getD rows i blank in
+    row-exact (asRow (e .kind)) (e .a) n known request h (omega (arith, row-uses e, covers i)) x y s t p q) r
 
 -- "Predicates from n up may be given and change nothing."
-row-same : (k : Kind) (a n known request more then : ℕ) → ((p : ℕ) → p < n → (bit known p ≡ bit more p) × (bit request p ≡ bit then p)) →
-    usedBy (formOf k .names) a ≤ n → (s t : Set decisions) → setBy k a known request s t ≡ setBy k a more then s t
+row-same : (k : RowKind) (a n known request more then : ℕ) → ((p : ℕ) → p < n → (bit known p ≡ bit more p) × (bit request p ≡ bit then p)) →
+    usedBy (formOf (Row k) .names) a ≤ n → (s t : Set decisions) → setBy k a known request s t ≡ setBy k a more then s t
 unfolding setBy factSet
 row-same (Always w) a n known request more then h u s t = refl
 row-same DenyIf a n known request more then h u s t = let e = h a (omega arith) in rw (e .0, e .1)
 row-same GrantIf a n known request more then h u s t = let e = h a (omega arith) in rw (e .0, e .1)
 row-same (One op) a n known request more then h u s t = refl
 row-same (Two op) a n known request more then h u s t = refl
-row-same (Compare c) a n known request more then h u s t = refl
-row-same Not a n known request more then h u s t = refl
-row-same Both a n known request more then h u s t = refl
 
-pub beyond-n : (rows : List Entry) (known request more then r : ℕ) → ((p : ℕ) → p < predicates rows → (bit known p ≡ bit more p) × (bit request p ≡ bit then p)) →
-    possible rows known request r ≡ possible rows more then r
-beyond-n rows known request more then r h =
+pub beyond-n : (rows : List Entry) (n : ℕ) → Covers n rows → (known request more then r : ℕ) →
+    ((p : ℕ) → p < n → (bit known p ≡ bit more p) × (bit request p ≡ bit then p)) → possible rows known request r ≡ possible rows more then r
+beyond-n rows n covers known request more then r h =
     side-by-side (λ s t. s ≡ t) (setOf known request) (setOf more then) (single U) (single U) rows refl
-    (λ i s t u v p q. ap₂ (setBy (getD rows i blank .kind) (getD rows i blank .a) known request) p q
-    ∙ row-same (getD rows i blank .kind) (getD rows i blank .a) (predicates rows) known request more then h (used-below rows i) u v) r
+    (λ i s t u v p q. ap₂ (setBy (asRow (getD rows i blank .kind)) (getD rows i blank .a) known request) p q
+    ∙ row-same (asRow (getD rows i blank .kind)) (getD rows i blank .a) n known request more then h (omega (arith, row-uses (getD rows i blank), covers i)) u v)
+    r

@@ -7,3 +7,4 @@ pub mod SetLoop
 pub mod Filling
 pub mod Notebook
 pub mod Unique
+pub mod Renaming

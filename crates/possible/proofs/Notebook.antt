@@ -8,8 +8,10 @@ use Rattle.belnap.specs.declared.Decision.{Decision}
 use Rattle.belnap.specs.declared.Decision.the-variants.{U, D, G, C}
 use Rattle.belnap.specs.Operators.{conflation, openDefault, truthMeet, truthJoin, knowledgeMeet, knowledgeJoin, implication, guard, override}
 use Rattle.table.specs.Kinds.{kindOf}
-use Rattle.table.specs.Entries.{noRoom, bodyStep, stepBy, stepOf}
-use Rattle.table.specs.Reading.{Result, accepted, refused, after, readOn, reading}
+use Rattle.table.specs.Said.{Said, answered, refusing}
+use Rattle.table.specs.Entries.{bytesOf, bodyOf, decoded, noRoom, misnaming, permitted, judged, stepOf}
+use Rattle.table.specs.Contents.{Contents}
+use Rattle.table.specs.Reading.{after, readOn, reading}
 use Rattle.decide.specs.Rows.{values, valueAt}
 use Rattle.decide.specs.Meaning.{bit}
 use Rattle.possible.specs.Sets.{decisions, Set, ofMask, choosing, imageOne, imageTwo}
@@ -28,9 +30,9 @@ abbrev members : Set decisions → List Decision
 members s = foldr (λ v later. cond (s .has v) (v ∷ later) later) [] (decisions .members)
 
 -- the decisions that remain possible for a row with nothing known; none where the table is refused
-abbrev remaining : Result → ℕ → List Decision
-remaining (accepted c) r = members (possible (c .rows) 0 0 r)
-remaining (refused n p) r = []
+abbrev remaining : Said Contents → ℕ → List Decision
+remaining (answered c) r = members (possible (c .rows) 0 0 r)
+remaining (refusing why) r = []
 
 abbrev cases : List Case
 cases =
@@ -45,5 +47,6 @@ cases =
     record { brought = members (ofMask decisions 6); stated = D ∷ G ∷ [] } ∷ []
 
 pub right : map (λ c. c .brought) cases ≡ map (λ c. c .stated) cases
-unfolding reading readOn after stepOf stepBy kindOf noRoom bodyStep values valueAt bit factSet setBy choosing imageOne imageTwo ofMask
+unfolding reading readOn after stepOf judged permitted misnaming noRoom decoded bodyOf kindOf bytesOf values valueAt bit factSet setBy choosing imageOne
+    imageTwo ofMask
 right = refl

@@ -6,9 +6,10 @@ use lib.Dec.{ltb}
 use Rattle.belnap.specs.declared.Decision.{Decision}
 use Rattle.belnap.specs.declared.Decision.the-variants.{U, D, G}
 use Rattle.belnap.specs.Operators.{one, two}
-use Rattle.table.specs.declared.kinds.Kind.{Kind}
-use Rattle.table.specs.declared.kinds.Kind.the-variants.{Always, DenyIf, GrantIf, One, Two, Compare, Not, Both}
+use Rattle.table.specs.declared.kinds.RowKind.{RowKind}
+use Rattle.table.specs.declared.kinds.RowKind.the-variants.{Always, DenyIf, GrantIf, One, Two}
 use Rattle.table.specs.declared.entries.Entry.{Entry}
+use Rattle.table.specs.Kinds.{asRow}
 use Rattle.table.specs.Entries.{rowLimit}
 use Rattle.decide.specs.Rows.{valueAt}
 use Rattle.decide.specs.Meaning.{bit}
@@ -18,19 +19,16 @@ use Rattle.possible.specs.Sets.{decisions, Set, single, either, imageOne
 unfoldable pub factSet : Decision → ℕ → ℕ → ℕ → Set decisions
 factSet v p known request = cond (bit known p) (single (cond (bit request p) v U)) (either (single U) (single v))
 
--- "A constant has its one decision." A question is no row: it reads as always u.
-unfoldable pub setBy : Kind → ℕ → ℕ → ℕ → Set decisions → Set decisions → Set decisions
+-- "A constant has its one decision."
+unfoldable pub setBy : RowKind → ℕ → ℕ → ℕ → Set decisions → Set decisions → Set decisions
 setBy (Always v) p known request s t = single v
 setBy DenyIf p known request s t = factSet D p known request
 setBy GrantIf p known request s t = factSet G p known request
 setBy (One op) p known request s t = imageOne (one op) s
 setBy (Two op) p known request s t = imageTwo (two op) s t
-setBy (Compare o) p known request s t = single U
-setBy Not p known request s t = single U
-setBy Both p known request s t = single U
 
 abbrev pub setOf : ℕ → ℕ → Entry → Set decisions → Set decisions → Set decisions
-setOf known request e s t = setBy (e .kind) (e .a) known request s t
+setOf known request e s t = setBy (asRow (e .kind)) (e .a) known request s t
 
 -- the set of row r, with these predicates known and these of them yes
 abbrev pub possible : List Entry → ℕ → ℕ → ℕ → Set decisions

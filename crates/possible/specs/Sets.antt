@@ -8,7 +8,7 @@ use lib.ListN.{getElem?}
 use lib.Dec.{eqb}
 use Rattle.belnap.specs.declared.Decision.{Decision}
 use Rattle.belnap.specs.declared.Decision.the-variants.{U, D, G, C}
-use Rattle.belnap.specs.Decisions.{code}
+use Rattle.belnap.specs.Decisions.{code, everyDecision}
 use Rattle.decide.specs.Meaning.{bit}
 
 -- a finite type: its members in order, and the place of each among them, where it stands
@@ -20,7 +20,7 @@ pub record Finite : Type 1 where
 
 -- the decisions in the order of their codes; "true and false"
 abbrev pub decisions : Finite
-decisions = record { Member = Decision; members = U ∷ D ∷ G ∷ C ∷ []; place = code; there = elim [ U ↦ refl | D ↦ refl | G ↦ refl | C ↦ refl ] }
+decisions = record { Member = Decision; members = everyDecision; place = code; there = elim [ U ↦ refl | D ↦ refl | G ↦ refl | C ↦ refl ] }
 
 abbrev pub truths : Finite
 truths = record { Member = Bool; members = true ∷ false ∷ []; place = λ b. cond b 0 1; there = elim [ true ↦ refl | false ↦ refl ] }

@@ -6,13 +6,14 @@ use belnap::Decision;
 use table::Table;
 use table::entries;
 use table::flat;
-use table::kinds::Kind;
+use table::kinds;
+use table::kinds::RowKind;
 ghost use mathlib.Core.Path.{_≡_};
 ghost use mathlib.Core.List.{_++_, map};
 ghost use Prim.Native.Nat.{_*_, _≤_, _<_};
 ghost use lib.ListN.{length, getD, take, drop};
 ghost use Rattle.belnap.specs.declared.Decision.the-variants.{U};
-ghost use Rattle.table.specs.Flat.{entriesIn};
+ghost use Rattle.table.specs.Flat.{perEntry, entriesIn};
 ghost use Rattle.decide.specs.Rows.{values};
 ghost use Rattle.possible.specs.Sets.{decisions, single, mask, ofMask};
 ghost use Rattle.possible.specs.Possible.{factSet, setBy, setOf, possibleIn};
@@ -33,18 +34,15 @@ fn fact_set(v: Decision, predicate: u8, known: u32, request: u32) -> u8
 }
 
 // The set of a row where the rows that it names have the sets s and t.
-fn set_by(kind: Kind, predicate: u8, known: u32, request: u32, s: u8, t: u8) -> u8
+fn set_by(kind: RowKind, predicate: u8, known: u32, request: u32, s: u8, t: u8) -> u8
     ensures { λ r. ⌜ r ≡ mask decisions (setBy kind predicate known request (ofMask decisions s) (ofMask decisions t)) ⌝ }
 {
     match kind {
-        Kind::Always(v) => sets::only(v),
-        Kind::DenyIf => fact_set(Decision::D, predicate, known, request),
-        Kind::GrantIf => fact_set(Decision::G, predicate, known, request),
-        Kind::One(op) => sets::image_one(op, s),
-        Kind::Two(op) => sets::image_two(op, s, t),
-        Kind::Compare(_) => sets::only(Decision::U),
-        Kind::Not => sets::only(Decision::U),
-        Kind::Both => sets::only(Decision::U),
+        RowKind::Always(v) => sets::only(v),
+        RowKind::DenyIf => fact_set(Decision::D, predicate, known, request),
+        RowKind::GrantIf => fact_set(Decision::G, predicate, known, request),
+        RowKind::One(op) => sets::image_one(op, s),
+        RowKind::Two(op) => sets::image_two(op, s, t),
     }
 }
 
@@ -53,21 +51,21 @@ pub fn earlier(masks: &[u8], i: usize, n: u8) -> u8
     requires { ⌜ i ≤ length (now masks) ⌝ }
     ensures { λ r. ⌜ r ≡ getD (take i (now (masks .entry))) n 1 ⌝ }
 {
-    let at = entries::wide(n);
+    let at = entries::index(n);
     if at < i { masks[at] } else { 1 }
 }
 
 // The sets of the rows below a number, from a run of rows, each from those before it, into the front of what is lent.
 pub fn sets_below(rows: &[u8], end: usize, known: u32, request: u32, sets: &mut [u8])
-    requires { ⌜ (3 * end ≤ length (now rows)) × (end ≤ length (now sets)) ⌝ }
+    requires { ⌜ (perEntry * end ≤ length (now rows)) × (end ≤ length (now sets)) ⌝ }
     ensures { λ r. ⌜ now (sets .exit) ≡
         map (mask decisions) (values (setOf known request) (single U) (entriesIn (now (rows .entry))) end)
         ++ drop end (now (sets .entry)) ⌝ }
 {
     let mut i = 0;
     while i < end {
-        let at = 3 * i;
-        let kind = flat::kind_in(rows[at]);
+        let at = flat::PER_ENTRY * i;
+        let kind = kinds::as_row(flat::kind_in(rows[at]));
         let a = rows[at + 1];
         let b = rows[at + 2];
         let s = earlier(sets, i, a);

@@ -11,14 +11,16 @@ use lib.Seq.{take-length, drop-length, take-at, drop-at, take-suc, drop-drop, ge
 use borrow.Rule.Slice.PartMut.{putMid, midOf}
 use Rattle.table.specs.declared.entries.Entry.{Entry}
 use Rattle.table.specs.declared.Table.{Table}
-use Rattle.table.specs.Entries.{blank, rowLimit, questionLimit, numbersOf, bytesOf, over}
-use Rattle.table.specs.Reading.{Contents, tableOf, written}
-use Rattle.table.proofs.OneEntry.{length-bytes, over-long}
-use Rattle.table.proofs.Writing.{entries, Whole, written-append, written-more}
+use Rattle.table.specs.Entries.{blank, rowLimit, questionLimit, numbersOf, sizeOf, bytesOf, onto}
+use Rattle.table.specs.Contents.{Contents, entries, written}
+use Rattle.table.specs.Reading.{tableOf, contentsIn}
+use Rattle.table.proofs.OneEntry.{size, onto-long}
+use Rattle.table.proofs.Writing.{Whole, written-append, written-more}
 use Rattle.table.proofs.Padding.{padded-length, padded-front}
-use Rattle.strike.specs.Strike.{old, lowered, closedUp, held, Fits}
+use Rattle.strike.specs.Strike.{old, lowered, closedUp, struckBytes, Fits}
 use Rattle.strike.proofs.Renumbering.{old-below, old-above}
 use Rattle.strike.proofs.Closing.{closed-at, length-closed}
+use Rattle.strike.proofs.Laws.{struck-entries}
 
 -- the struct of a whole table
 module _ (c : Contents) (w : Whole c) where
@@ -31,56 +33,65 @@ module _ (c : Contents) (w : Whole c) where
     questions-there = omega (arith, padded-length blank questionLimit (c .questions) (w .questions-fit));
   }
 
-  pub table-held : held (tableOf c) ≡ entries c
+  pub contents-back : contentsIn (tableOf c) ≡ c
   unfolding tableOf
-  table-held =
-      ap₂ _++_
+  contents-back =
+      ap₂ (λ (rows questions : List Entry). record { rows = rows; questions = questions })
       (padded-front blank rowLimit (c .rows) (length (c .rows)) (omega arith) ∙ take-length (c .rows))
       (padded-front blank questionLimit (c .questions) (length (c .questions)) (omega arith) ∙ take-length (c .questions))
 
+-- the entries that a struct holds, in order
+abbrev pub held : Table → List Entry
+held t = entries (contentsIn t)
+
 -- entry i of a struct: a row, or behind the rows a question
 module _ {t : Table} (f : Fits t) where
-  rows-length : length (take (t .used) (t .rows)) ≡ t .used
-  rows-length = length-take-le (t .used) (t .rows) (omega (arith, f .used-fit, f .rows-there))
+  rows-length : length (take (t .tally .rows) (t .rows)) ≡ t .tally .rows
+  rows-length = length-take-le (t .tally .rows) (t .rows) (omega (arith, f .used-fit, f .rows-there))
 
-  questions-length : length (take (t .asked) (t .questions)) ≡ t .asked
-  questions-length = length-take-le (t .asked) (t .questions) (omega (arith, f .asked-fit, f .questions-there))
+  questions-length : length (take (t .tally .questions) (t .questions)) ≡ t .tally .questions
+  questions-length = length-take-le (t .tally .questions) (t .questions) (omega (arith, f .asked-fit, f .questions-there))
 
-  pub held-length : length (held t) ≡ t .used + t .asked
-  held-length = length-append (take (t .used) (t .rows)) (take (t .asked) (t .questions)) ∙ ap₂ _+_ rows-length questions-length
+  pub held-length : length (held t) ≡ t .tally .rows + t .tally .questions
+  held-length = length-append (take (t .tally .rows) (t .rows)) (take (t .tally .questions) (t .questions)) ∙ ap₂ _+_ rows-length questions-length
 
-  pub held-row : (i : ℕ) → i < t .used → getD (held t) i blank ≡ getD (t .rows) i blank
+  pub held-row : (i : ℕ) → i < t .tally .rows → getD (held t) i blank ≡ getD (t .rows) i blank
   held-row i l =
-      List·getD-append (take (t .used) (t .rows)) (take (t .asked) (t .questions)) blank i (rw rows-length l)
-      ∙ getD-take (t .used) (t .rows) i blank l
+      List·getD-append (take (t .tally .rows) (t .rows)) (take (t .tally .questions) (t .questions)) blank i (rw rows-length l)
+      ∙ getD-take (t .tally .rows) (t .rows) i blank l
 
-  held-question : (i : ℕ) → t .used ≤ i → i < t .used + t .asked → getD (held t) i blank ≡ getD (t .questions) (i - t .used) blank
+  held-question : (i : ℕ) → t .tally .rows ≤ i → i < t .tally .rows + t .tally .questions →
+      getD (held t) i blank ≡ getD (t .questions) (i - t .tally .rows) blank
   held-question i u l =
-      let q : i ≡ length (take (t .used) (t .rows)) + (i - t .used) = omega (arith, rows-length) in
+      let q : i ≡ length (take (t .tally .rows) (t .rows)) + (i - t .tally .rows) = omega (arith, rows-length) in
       ap (λ (i : ℕ). getD (held t) i blank) q
-      ∙ getD-append-add (take (t .used) (t .rows)) (take (t .asked) (t .questions)) (i - t .used) blank
-      ∙ getD-take (t .asked) (t .questions) (i - t .used) blank (omega arith)
+      ∙ getD-append-add (take (t .tally .rows) (t .rows)) (take (t .tally .questions) (t .questions)) (i - t .tally .rows) blank
+      ∙ getD-take (t .tally .questions) (t .questions) (i - t .tally .rows) blank (omega arith)
 
   -- as the code takes it, by either way
-  pub held-at : {A B : Type 0} (i : ℕ) (e : Entry) → i < t .used + t .asked → (A → (i < t .used) × (e ≡ getD (t .rows) i blank)) →
-      (B → (t .used ≤ i) × (e ≡ getD (t .questions) (i - t .used) blank)) → A ⊎ B → e ≡ getD (held t) i blank
+  pub held-at : {A B : Type 0} (i : ℕ) (e : Entry) → i < t .tally .rows + t .tally .questions → (A → (i < t .tally .rows) × (e ≡ getD (t .rows) i blank)) →
+      (B → (t .tally .rows ≤ i) × (e ≡ getD (t .questions) (i - t .tally .rows) blank)) → A ⊎ B → e ≡ getD (held t) i blank
   held-at i e l row question =
       ⊎-elim (λ w. row w .1 ∙ sym (held-row i (row w .0))) (λ w. question w .1 ∙ sym (held-question i (question w .0) l))
 
 -- entry j of those closed up over row r
-module _ {t : Table} (f : Fits t) (r : ℕ) (u : r < t .used) where
-  pub closed-count : length (closedUp r (held t)) ≡ t .used + t .asked - 1
+module _ {t : Table} (f : Fits t) (r : ℕ) (u : r < t .tally .rows) where
+  pub struck-held : struckBytes r (contentsIn t) ≡ written (closedUp r (held t))
+  struck-held = ap written (struck-entries r (contentsIn t) (rw (rows-length f) u))
+
+  pub closed-count : length (closedUp r (held t)) ≡ t .tally .rows + t .tally .questions - 1
   closed-count = omega (arith, length-closed r (held t) (omega (arith, held-length f)), held-length f)
 
   -- as the code takes it, from its old number i
-  pub closed-next : {A B C D : Type 0} (j i : ℕ) (g : Entry) → j < t .used + t .asked - 1 →
+  pub closed-next : {A B C D : Type 0} (j i : ℕ) (g : Entry) → j < t .tally .rows + t .tally .questions - 1 →
       (A → (j < r) × (i ≡ j)) → (B → (r ≤ j) × (i ≡ j + 1)) → A ⊎ B →
-      (C → (i < t .used) × (g ≡ lowered r (getD (t .rows) i blank))) → (D → (t .used ≤ i) × (g ≡ lowered r (getD (t .questions) (i - t .used) blank))) → C ⊎ D →
+      (C → (i < t .tally .rows) × (g ≡ lowered r (getD (t .rows) i blank))) →
+      (D → (t .tally .rows ≤ i) × (g ≡ lowered r (getD (t .questions) (i - t .tally .rows) blank))) → C ⊎ D →
       g ≡ getD (closedUp r (held t)) j blank
   closed-next j i g l below above number row question entry =
       let o : i ≡ old r j =
       ⊎-elim (λ w. below w .1 ∙ sym (old-below r j (below w .0))) (λ w. above w .1 ∙ add-one j ∙ sym (old-above r j (above w .0))) number in
-      let here : i < t .used + t .asked = ⊎-elim (λ w. let b = below w in omega arith) (λ w. let b = above w in omega arith) number in
+      let here : i < t .tally .rows + t .tally .questions = ⊎-elim (λ w. let b = below w in omega arith) (λ w. let b = above w in omega arith) number in
       let m : g ≡ lowered r (getD (held t) i blank) =
       ⊎-elim (λ w. row w .1 ∙ ap (lowered r) (sym (held-row f i (row w .0))))
       (λ w. question w .1 ∙ ap (lowered r) (sym (held-question f i (question w .0) here))) entry in
@@ -113,21 +124,22 @@ module _ {es : List Entry} {before : List ℕ} {j at : ℕ} {out : List ℕ} (f 
   filled-length = ap length (f .bytes) ∙ length-append (written (take j es)) (drop at before) ∙ omega (arith, f .place, length-drop at before, filled-within)
 
 -- one entry more, written into the part of the output from its current end
-module _ {es : List Entry} {before : List ℕ} {j at : ℕ} {out : List ℕ} (f : Filled es before j at out) (here : j < length es) (e : Entry) (next : e ≡ getD es j blank) where
+module _ {es : List Entry} {before : List ℕ} {j at : ℕ} {out : List ℕ} (f : Filled es before j at out) (here : j < length es) (e : Entry)
+    (next : e ≡ getD es j blank) where
   more : written (take (j + 1) es) ≡ written (take j es) ++ bytesOf e
   more =
       ap written (ap (λ (k : ℕ). take k es) (add-one j) ∙ take-suc es j blank here) ∙ written-more (take j es) (getD es j blank)
       ∙ ap (λ (e : Entry). written (take j es) ++ bytesOf e) (sym next)
 
-  place-more : at + length (bytesOf e) ≡ length (written (take (j + 1) es))
-  place-more = ap (λ (x : ℕ). x + length (bytesOf e)) (f .place) ∙ sym (ap length more ∙ length-append (written (take j es)) (bytesOf e))
+  place-more : at + sizeOf e ≡ length (written (take (j + 1) es))
+  place-more = ap (λ (x : ℕ). x + sizeOf e) (f .place) ∙ sym (ap length more ∙ length-append (written (take j es)) (bytesOf e))
 
-  pub filled-room : at + length (bytesOf e) ≤ length before
+  pub filled-room : at + sizeOf e ≤ length before
   filled-room =
-      filled-within {es = es} {before = before} {j = j + 1} {out = written (take (j + 1) es) ++ drop (at + length (bytesOf e)) before}
+      filled-within {es = es} {before = before} {j = j + 1} {out = written (take (j + 1) es) ++ drop (at + sizeOf e) before}
       (record { fits = f .fits; place = place-more; bytes = refl })
 
-  pub filled-more : (k n : ℕ) (ys : List ℕ) → k ≡ length out - at → n ≡ length (bytesOf e) → ys ≡ over (bytesOf e) (midOf at k out) →
+  pub filled-more : (k n : ℕ) (ys : List ℕ) → k ≡ length out - at → n ≡ sizeOf e → ys ≡ onto (bytesOf e) (midOf at k out) →
       Filled es before (j + 1) (at + n) (putMid at k out ys)
   filled-more k n ys ke ne ye =
       let d : drop at out ≡ drop at before = ap (drop at) (f .bytes) ∙ drop-at (written (take j es)) (drop at before) at (sym (f .place)) in
@@ -135,13 +147,13 @@ module _ {es : List Entry} {before : List ℕ} {j at : ℕ} {out : List ℕ} (f 
       let q : k ≡ length (drop at before) = omega (arith, ke, filled-length f, length-drop at before) in
       let mid : midOf at k out ≡ drop at before = ap₂ take q d ∙ take-length (drop at before) in
       let post : drop k (drop at out) ≡ [] = ap₂ drop q d ∙ drop-length (drop at before) in
-      let room : numbersOf e < length (drop at before) = omega (arith, length-drop at before, length-bytes e, filled-room) in
-      let y : ys ≡ bytesOf e ++ drop (at + length (bytesOf e)) before =
-      ye ∙ ap (over (bytesOf e)) mid ∙ sym (over-long e (drop at before) room) ∙ ap (λ (l : List ℕ). bytesOf e ++ l) (drop-drop (length (bytesOf e)) at before) in
+      let room : numbersOf e < length (drop at before) = omega (arith, length-drop at before, size e, filled-room) in
+      let y : ys ≡ bytesOf e ++ drop (at + sizeOf e) before =
+      ye ∙ ap (onto (bytesOf e)) mid ∙ sym (onto-long e (drop at before) room) ∙ ap (λ (l : List ℕ). bytesOf e ++ l) (drop-drop (sizeOf e) at before) in
       rw ne (record {
         fits = f .fits;
         place = place-more;
-        bytes = ap₂ _++_ t (ap₂ _++_ y post ∙ append-nil (bytesOf e ++ drop (at + length (bytesOf e)) before))
-            ∙ sym (append-assoc (written (take j es)) (bytesOf e) (drop (at + length (bytesOf e)) before))
-            ∙ ap (λ (l : List ℕ). l ++ drop (at + length (bytesOf e)) before) (sym more);
+        bytes = ap₂ _++_ t (ap₂ _++_ y post ∙ append-nil (bytesOf e ++ drop (at + sizeOf e) before))
+            ∙ sym (append-assoc (written (take j es)) (bytesOf e) (drop (at + sizeOf e) before))
+            ∙ ap (λ (l : List ℕ). l ++ drop (at + sizeOf e) before) (sym more);
       })

@@ -1,13 +1,12 @@
 -- The row named under the old number is the row named under the new one (01, "Taking one entry, and striking a row").
 -- Assumes nothing.
 use mathlib.Core.Path.{_≡_, refl, sym, ap, _∙_}
-use mathlib.Core.Bool.{Bool, true, false}
 use mathlib.Core.List.{List, [], _∷_, _++_}
 use Prim.Native.Nat.{ℕ, zero, suc, _+_, _-_, _≤_, _<_}
 use native.Mathlib.Omega.{arith}
 use lib.ListN.{length, getD}
-use lib.Dec.{ltb}
-use borrow.Author.Tests.{ltb-true, ltb-false, lt-ltb, le-ltb}
+use borrow.Author.Tests.{lt-ltb, le-ltb}
+use Rattle.table.proofs.Numbers.{by-order}
 use Rattle.strike.specs.Strike.{lower, old, without}
 
 -- the two sides of r
@@ -27,37 +26,32 @@ pub old-above : (r j : ℕ) → r ≤ j → old r j ≡ suc j
 unfolding old
 old-above r j h = rw (le-ltb j r h)
 
--- a fact on one side and on the other
-sides : {P : Type 0} (a b : ℕ) → (a < b → P) → (b ≤ a → P) → P
-sides {P} a b f g = go (ltb a b) refl
-  where
-    go : (t : Bool) → ltb a b ≡ t → P
-    go true e = f (ltb-true a b e)
-    go false e = g (ltb-false a b e)
-
 -- lowering undone
 pub old-lower : (r x : ℕ) → (x ≡ r → ⊥) → old r (lower r x) ≡ x
 old-lower r x h =
-    sides r x
+    by-order r x
     (λ l. rw (lower-above r x l, old-above r (x - 1) (omega arith)) (omega arith))
     (λ l. rw (lower-below r x l) (old-below r x (omega (arith, h))))
 
 -- a lower row is lower under its new number
 pub lower-lt : (r x j : ℕ) → (x ≡ r → ⊥) → x < old r j → lower r x < j
 lower-lt r x j h l =
-    sides j r
+    by-order j r
     (λ s. rw (lower-below r x (omega (arith, old-below r j s))) (omega (arith, old-below r j s)))
-    (λ s. sides r x
+    (λ s. by-order r x
     (λ t. rw (lower-above r x t) (omega (arith, old-above r j s)))
     (λ t. rw (lower-below r x t) (omega (arith, h))))
 
+pub lower-still : (r x i : ℕ) → (x ≡ r → ⊥) → (i ≡ r → ⊥) → x < i → lower r x < lower r i
+lower-still r x i h k l = lower-lt r x (lower r i) h (rw (old-lower r i k) l)
+
 -- the old number of a row that is left is that of a row
 pub old-lt : (r j n : ℕ) → r ≤ n → j < n → old r j < suc n
-old-lt r j n h l = sides j r (λ s. rw (old-below r j s) (omega arith)) (λ s. rw (old-above r j s) (omega arith))
+old-lt r j n h l = by-order j r (λ s. rw (old-below r j s) (omega arith)) (λ s. rw (old-above r j s) (omega arith))
 
 old-suc : (r j : ℕ) → old (suc r) (suc j) ≡ suc (old r j)
 old-suc r j =
-    sides j r
+    by-order j r
     (λ l. rw (old-below r j l) (old-below (suc r) (suc j) (omega arith)))
     (λ l. rw (old-above r j l) (old-above (suc r) (suc j) (omega arith)))
 

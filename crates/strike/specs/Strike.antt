@@ -1,18 +1,16 @@
 -- Striking a row (01, "Taking one entry, and striking a row" and "When we say no").
 use Prim.Native.Nat.{ℕ, zero, suc, _-_, _≤_}
-use mathlib.Core.Bool.{Bool, true, false, cond, _&&_, _||_}
+use mathlib.Core.Bool.{Bool, false, cond, _&&_, _||_}
 use mathlib.Core.List.{List, [], _∷_, _++_, map}
-use lib.ListN.{length, take, drop}
+use lib.ListN.{length, drop}
 use lib.Dec.{leb, ltb, eqb}
-use Rattle.table.specs.declared.kinds.Names.{Names}
-use Rattle.table.specs.declared.kinds.Names.the-variants.{Nothing, Predicates, Rows, Questions}
 use Rattle.table.specs.declared.entries.Entry.{Entry}
 use Rattle.table.specs.declared.Table.{Table}
-use Rattle.table.specs.declared.Outcome.{Outcome}
-use Rattle.table.specs.declared.Outcome.the-variants.{Read, Refused as RefusedReading}
-use Rattle.table.specs.Kinds.{formOf}
-use Rattle.table.specs.Entries.{rowLimit, questionLimit, numbersOf}
-use Rattle.table.specs.Reading.{Contents, Result, accepted, refused, written}
+use Rattle.table.specs.Refusals.{stillNamed, outputTooShort, ifMissing}
+use Rattle.table.specs.Said.{Said, answered, refusing, andThen, unless}
+use Rattle.table.specs.Entries.{rowLimit, questionLimit}
+use Rattle.table.specs.Contents.{Contents, entries, encoded}
+use Rattle.table.specs.Renaming.{namesRow, renamed}
 use Rattle.strike.specs.declared.Struck.{Struck}
 use Rattle.strike.specs.declared.Struck.the-variants.{Written, Refused}
 
@@ -24,20 +22,9 @@ lower r x = cond (ltb r x) (x - 1) x
 unfoldable pub old : ℕ → ℕ → ℕ
 old r j = cond (ltb j r) j (suc j)
 
--- whether the numbers of a body are row numbers
-abbrev pub rowNumbers : Names → Bool
-rowNumbers Nothing = false
-rowNumbers Predicates = false
-rowNumbers Rows = true
-rowNumbers Questions = false
-
--- "wherever it occurs, question numbers unchanged": both numbers of an entry whose numbers name rows; one that is not there is 0 and stays 0
-abbrev pub loweredIf : Bool → ℕ → Entry → Entry
-loweredIf true r e = record { kind = e .kind; a = lower r (e .a); b = lower r (e .b) }
-loweredIf false r e = e
-
+-- "wherever it occurs, question numbers unchanged"
 abbrev pub lowered : ℕ → Entry → Entry
-lowered r e = loweredIf (rowNumbers (formOf (e .kind) .names)) r e
+lowered r e = renamed (lower r) e
 
 -- a list without the element at r
 unfoldable pub without : {A : Type 0} → ℕ → List A → List A
@@ -55,24 +42,15 @@ struck r c = record { rows = closedUp r (c .rows); questions = map (lowered r) (
 
 -- its bytes
 abbrev pub struckBytes : ℕ → Contents → List ℕ
-struckBytes r c = written (struck r c .rows ++ struck r c .questions)
+struckBytes r c = encoded (struck r c)
 
--- whether an entry names row r: its numbers name rows, and one that is there is r
-abbrev pub isAt : ℕ → ℕ → ℕ → ℕ → Bool
-isAt r numbers i x = cond (ltb i numbers) (eqb x r) false
-
+-- whether an entry names row r, and whether some entry of a list does
 abbrev pub names : ℕ → Entry → Bool
-names r e = rowNumbers (formOf (e .kind) .names) && (isAt r (numbersOf e) 0 (e .a) || isAt r (numbersOf e) 1 (e .b))
+names r e = (namesRow 0 e && eqb (e .a) r) || (namesRow 1 e && eqb (e .b) r)
 
--- whether some entry of a list does
 unfoldable pub namedBy : ℕ → List Entry → Bool
 namedBy r [] = false
 namedBy r (e ∷ es) = names r e || namedBy r es
-
--- a refusal of reading's, passed on
-abbrev pub refusedAs : Outcome → Struck
-refusedAs Read = Refused 0 0
-refusedAs (RefusedReading n p) = Refused n p
 
 -- 8, "the row or question asked for is not there"
 abbrev pub missing : ℕ → Contents → Bool
@@ -80,7 +58,7 @@ missing r c = leb (length (c .rows)) r
 
 -- 9, "the row to strike is named by a row or question"
 abbrev pub inUse : ℕ → Contents → Bool
-inUse r c = namedBy r (c .rows ++ c .questions)
+inUse r c = namedBy r (entries c)
 
 -- 11, "the output is shorter than the bytes to write"
 abbrev pub tooShort : ℕ → ℕ → Contents → Bool
@@ -88,32 +66,30 @@ tooShort room r c = ltb room (length (struckBytes r c))
 
 -- 9, then 11; 0 for neither
 abbrev pub strikeRefusal : Bool → Bool → ℕ
-strikeRefusal named short = cond named 9 (cond short 11 0)
+strikeRefusal named short = cond named stillNamed (cond short outputTooShort 0)
 
 -- reading's own refusal, then these in their order; otherwise "the length comes back"
-unfoldable pub struckAnswer : Result → ℕ → ℕ → Struck
-struckAnswer (accepted c) r room =
-    cond (missing r c) (Refused 8 0)
-    (cond (inUse r c) (Refused 9 0)
-    (cond (tooShort room r c) (Refused 11 0)
-    (Written (length (struckBytes r c)))))
-struckAnswer (refused n p) r room = Refused n p
+unfoldable pub struckAnswer : Said Contents → ℕ → ℕ → Said ℕ
+struckAnswer x r room =
+    andThen x (λ c.
+    unless (ifMissing (missing r c)) (unless (strikeRefusal (inUse r c) (tooShort room r c)) (answered (length (struckBytes r c)))))
+
+unfoldable pub shownStruck : Said ℕ → Struck
+shownStruck (answered n) = Written n
+shownStruck (refusing why) = Refused why
 
 -- "bytes behind the last stay"; "a refusal changes no lent byte"
-abbrev pub outputBy : Struck → List ℕ → List ℕ → List ℕ
-outputBy (Written n) bytes out = bytes ++ drop n out
-outputBy (Refused n p) bytes out = out
+abbrev pub outputBy : Said ℕ → List ℕ → List ℕ → List ℕ
+outputBy (answered n) bytes out = bytes ++ drop n out
+outputBy (refusing why) bytes out = out
 
-unfoldable pub struckOutput : Result → ℕ → List ℕ → List ℕ
-struckOutput (accepted c) r out = outputBy (struckAnswer (accepted c) r (length out)) (struckBytes r c) out
-struckOutput (refused n p) r out = out
+unfoldable pub struckOutput : Said Contents → ℕ → List ℕ → List ℕ
+struckOutput (answered c) r out = outputBy (struckAnswer (answered c) r (length out)) (struckBytes r c) out
+struckOutput (refusing why) r out = out
 
--- the entries that a table's struct holds, and that its counts fit its arrays
-abbrev pub held : Table → List Entry
-held t = take (t .used) (t .rows) ++ take (t .asked) (t .questions)
-
+-- the counts of a table's struct fit its arrays
 pub record Fits (t : Table) : Type 0 where
-  pub used-fit : t .used ≤ rowLimit
+  pub used-fit : t .tally .rows ≤ rowLimit
   pub rows-there : rowLimit ≤ length (t .rows)
-  pub asked-fit : t .asked ≤ questionLimit
+  pub asked-fit : t .tally .questions ≤ questionLimit
   pub questions-there : questionLimit ≤ length (t .questions)

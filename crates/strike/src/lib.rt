@@ -1,43 +1,36 @@
 // Striking a row: the table without it, written into a second lent buffer, or a refusal that changes nothing.
 use table::Outcome;
 use table::Table;
+use table::entries;
 use table::entries::Entry;
-use table::kinds::Names;
+use table::refusals;
+use table::refusals::Refusal;
 ghost use mathlib.Core.Path.{_≡_};
+ghost use mathlib.Core.Bool.{cond};
 ghost use mathlib.Core.List.{_++_};
 ghost use Prim.Native.Nat.{_≤_, _<_};
 ghost use lib.ListN.{length, drop};
-ghost use Rattle.table.specs.Reading.{reading, written};
-ghost use Rattle.strike.specs.Strike.{lower, rowNumbers, lowered, closedUp, isAt, names};
-ghost use Rattle.strike.specs.Strike.{namedBy, refusedAs, strikeRefusal, struckAnswer, struckOutput, held, Fits};
+ghost use Rattle.table.specs.Reading.{reading, contentsIn};
+ghost use Rattle.strike.specs.Strike.{lower, lowered, names, struckBytes, inUse, strikeRefusal, struckAnswer, shownStruck, struckOutput, Fits};
 
-// How many bytes were written, or a refusal's number and place.
+// How many bytes were written, or a refusal.
 pub enum Struck {
     Written(usize),
-    Refused(u8, usize),
+    Refused(Refusal),
 }
 
 // A number above r, lowered by one.
 fn lower_of(r: usize, x: u8) -> u8
     ensures { λ y. ⌜ y ≡ lower r x ⌝ }
 {
-    if r < table::entries::wide(x) {
-        x - 1
-    } else {
-        x
-    }
+    if r < entries::index(x) { x - 1 } else { x }
 }
 
-// Whether the numbers of a body are row numbers.
-fn row_numbers(names: Names) -> bool
-    ensures { λ b. ⌜ b ≡ rowNumbers names ⌝ }
+// A number as it stands once row r is struck: lowered where it names a row.
+fn lowered_if(row: bool, r: usize, x: u8) -> u8
+    ensures { λ y. ⌜ y ≡ cond row (lower r x) x ⌝ }
 {
-    match names {
-        Names::Nothing => false,
-        Names::Predicates => false,
-        Names::Rows => true,
-        Names::Questions => false,
-    }
+    if row { lower_of(r, x) } else { x }
 }
 
 // An entry as it stands once row r is struck.
@@ -45,46 +38,27 @@ fn lowered_of(r: usize, e: Entry) -> Entry
     ensures { λ f. ⌜ f ≡ lowered r e ⌝ }
 {
     let kind = e.kind;
-    let form = table::kinds::form_of(kind);
-    let names = form.names;
-    if row_numbers(names) {
-        let a = lower_of(r, e.a);
-        let b = lower_of(r, e.b);
-        Entry { kind, a, b }
-    } else {
-        e
-    }
-}
-
-// Whether the number at place i is there and is r.
-fn is_at(r: usize, numbers: usize, i: usize, x: u8) -> bool
-    ensures { λ b. ⌜ b ≡ isAt r numbers i x ⌝ }
-{
-    if i < numbers {
-        table::entries::wide(x) == r
-    } else {
-        false
-    }
+    let a = lowered_if(entries::names_row(e, 0), r, e.a);
+    let b = lowered_if(entries::names_row(e, 1), r, e.b);
+    Entry { kind, a, b }
 }
 
 // Whether an entry names row r.
-fn names_row(r: usize, e: Entry) -> bool
+fn names_of(r: usize, e: Entry) -> bool
     ensures { λ b. ⌜ b ≡ names r e ⌝ }
 {
-    let kind = e.kind;
-    let form = table::kinds::form_of(kind);
-    let names = form.names;
-    let numbers = form.numbers;
-    row_numbers(names) & (is_at(r, numbers, 0, e.a) | is_at(r, numbers, 1, e.b))
+    let first = entries::names_row(e, 0) & (entries::index(e.a) == r);
+    let second = entries::names_row(e, 1) & (entries::index(e.b) == r);
+    first | second
 }
 
 // Whether some row or question names row r.
 fn named(t: Table, r: usize) -> bool
     requires { ⌜ Fits t ⌝ }
-    ensures { λ b. ⌜ b ≡ namedBy r (held t) ⌝ }
+    ensures { λ b. ⌜ b ≡ inUse r (contentsIn t) ⌝ }
 {
-    let used = t.used;
-    let count = used + t.asked;
+    let used = t.tally.rows;
+    let count = used + t.tally.questions;
     let mut i = 0;
     while i < count {
         let e = if i < used {
@@ -92,7 +66,7 @@ fn named(t: Table, r: usize) -> bool
         } else {
             t.questions[i - used]
         };
-        if names_row(r, e) {
+        if names_of(r, e) {
             return true;
         }
         i += 1;
@@ -102,11 +76,11 @@ fn named(t: Table, r: usize) -> bool
 
 // The entries without row r, each into the unwritten rest of the output.
 fn write(t: Table, r: usize, out: &mut [u8]) -> usize
-    requires { ⌜ Fits t × (r < t .used) × (length (written (closedUp r (held t))) ≤ length (now out)) ⌝ }
-    ensures { λ n. ⌜ (n ≡ length (written (closedUp r (held t)))) × (now (out .exit) ≡ written (closedUp r (held t)) ++ drop n (now (out .entry))) ⌝ }
+    requires { ⌜ Fits t × (r < t .tally .rows) × (length (struckBytes r (contentsIn t)) ≤ length (now out)) ⌝ }
+    ensures { λ n. ⌜ (n ≡ length (struckBytes r (contentsIn t))) × (now (out .exit) ≡ struckBytes r (contentsIn t) ++ drop n (now (out .entry))) ⌝ }
 {
-    let used = t.used;
-    let count = used + t.asked - 1;
+    let used = t.tally.rows;
+    let count = used + t.tally.questions - 1;
     let mut at = 0;
     let mut j = 0;
     while j < count {
@@ -118,22 +92,11 @@ fn write(t: Table, r: usize, out: &mut [u8]) -> usize
             let question = t.questions[i - used];
             lowered_of(r, question)
         };
-        let n = table::entries::put(&mut out[at..], e);
+        let n = entries::put(&mut out[at..], e);
         at = at + n;
         j += 1;
     }
     at
-}
-
-// A refusal of reading's, passed on.
-fn refused(outcome: Outcome) -> Struck
-    ensures { λ s. ⌜ s ≡ refusedAs outcome ⌝ }
-{
-    match outcome {
-        // no refusal: never passed on
-        Outcome::Read => Struck::Refused(0, 0),
-        Outcome::Refused(number, place) => Struck::Refused(number, place),
-    }
 }
 
 // 9 where the row is named, then 11 where the output is too short; 0 for neither.
@@ -141,30 +104,31 @@ fn strike_refusal(named: bool, short: bool) -> u8
     ensures { λ n. ⌜ n ≡ strikeRefusal named short ⌝ }
 {
     if named {
-        return 9;
+        return refusals::STILL_NAMED;
     }
-    if short { 11 } else { 0 }
+    if short { refusals::OUTPUT_TOO_SHORT } else { 0 }
 }
 
 // The table without row `row`, over the front of the output; nothing is written before every refusal is ruled out.
 pub fn strike(table: &[u8], row: u32, out: &mut [u8]) -> Struck
-    ensures { λ r. ⌜ (r ≡ struckAnswer (reading (now (table .entry))) row (length (now (out .entry)))) × (now (out .exit) ≡ struckOutput (reading (now (table .entry))) row (now (out .entry))) ⌝ }
+    ensures { λ r. ⌜ (r ≡ shownStruck (struckAnswer (reading (now (table .entry))) row (length (now (out .entry))))) × (now (out .exit) ≡ struckOutput (reading (now (table .entry))) row (now (out .entry))) ⌝ }
 {
     let got = table::read(table);
     let outcome = got.outcome;
     let Outcome::Read = outcome else {
-        return refused(outcome);
+        let why = got.why;
+        return Struck::Refused(why);
     };
     let t = got.table;
     let r = row as usize;
-    if t.used <= r {
-        return Struck::Refused(8, 0);
+    if t.tally.rows <= r {
+        return Struck::Refused(Refusal::of(refusals::NOT_THERE));
     }
     let e = t.rows[r];
-    let length = table.len() - table::entries::numbers_of(e) - 1;
+    let length = table.len() - entries::size_of(e);
     let why = strike_refusal(named(t, r), out.len() < length);
     if why != 0 {
-        return Struck::Refused(why, 0);
+        return Struck::Refused(Refusal::of(why));
     }
     Struck::Written(write(t, r, out))
 }

@@ -1,44 +1,41 @@
--- What a service knows once it has opened a reading.
+-- What a caller of `read` knows: a reading that says that it was read stands for a table that keeps the rules, and one that says why not passes the refusal on.
 -- Assumes nothing.
-use mathlib.Core.Path.{_≡_, refl, ap}
+use mathlib.Core.Path.{_≡_, refl, sym, ap, _∙_}
 use mathlib.Core.List.{List}
 use Prim.Native.Nat.{ℕ}
 use native.Mathlib.Omega.{arith}
 use Rattle.table.specs.declared.Reading.{Reading}
 use Rattle.table.specs.declared.Outcome.the-variants.{Read, Refused}
-use Rattle.table.specs.Reading.{Contents, Result, accepted, refused, reading, tableOf, shown}
+use Rattle.table.specs.Said.{Said, answered, refusing, whyOf}
+use Rattle.table.specs.Contents.{Contents}
+use Rattle.table.specs.Reading.{reading, tableOf, outcomeOf, orNone, shown}
 use Rattle.table.proofs.Writing.{Whole, of-accepted}
+
+-- what was said, from the outcome that shows it
+read-of : (x : Said Contents) → outcomeOf x ≡ Read → (c : Contents) × (x ≡ answered c)
+read-of (answered c) e = (c, refl)
+read-of (refusing why) e = absurd (let z : _≡_ {A = ℕ} 0 1 = cc in omega arith)
+
+refused-of : (x : Said Contents) → outcomeOf x ≡ Refused → x ≡ refusing (whyOf x)
+refused-of (answered c) e = absurd (let z : _≡_ {A = ℕ} 0 1 = cc in omega arith)
+refused-of (refusing why) e = refl
 
 -- a reading that says that it was read
 pub record Opened (s : List ℕ) (r : Reading) : Type 0 where
   pub contents : Contents
-  pub is : reading s ≡ accepted contents
+  pub is : reading s ≡ answered contents
   pub table : r .table ≡ tableOf contents
   pub whole : Whole contents
 
-opened-at : (r : Reading) (x : Result) → r ≡ shown x → r .outcome ≡ Read → (c : Contents) × (x ≡ accepted c) × (r .table ≡ tableOf c)
-unfolding shown
-opened-at r (accepted c) q e = (c, refl, ap (λ (r : Reading). r .table) q)
-opened-at r (refused n p) q e = absurd (let z : _≡_ {A = ℕ} 0 1 = cc in omega arith)
-
 pub opened : (s : List ℕ) (r : Reading) → r ≡ shown (reading s) → r .outcome ≡ Read → Opened s r
-opened s r q e =
-    let o = opened-at r (reading s) q e in
-    record { contents = o .0; is = o .1; table = o .2; whole = of-accepted s (o .0) (o .1) .0 }
-
--- a reading that does not
-pub record Turned (s : List ℕ) (r : Reading) : Type 0 where
-  pub number : ℕ
-  pub place : ℕ
-  pub is : reading s ≡ refused number place
-  pub outcome : r .outcome ≡ Refused number place
-
-turned-at : (r : Reading) (x : Result) → r ≡ shown x → (r .outcome ≡ Read → ⊥) → (n : ℕ) × (p : ℕ) × (x ≡ refused n p) × (r .outcome ≡ Refused n p)
 unfolding shown
-turned-at r (accepted c) q e = absurd (e (ap (λ (r : Reading). r .outcome) q))
-turned-at r (refused n p) q e = (n, p, refl, ap (λ (r : Reading). r .outcome) q)
+opened s r q e =
+    let o = read-of (reading s) (sym (ap (λ (r : Reading). r .outcome) q) ∙ e) in
+    let t : r .table ≡ tableOf (o .0) = ap (λ (r : Reading). r .table) q ∙ ap (λ (x : Said Contents). tableOf (orNone x)) (o .1) in
+    record { contents = o .0; is = o .1; table = t; whole = of-accepted s (o .0) (o .1) .0 }
 
-pub turned : (s : List ℕ) (r : Reading) → r ≡ shown (reading s) → (r .outcome ≡ Read → ⊥) → Turned s r
+-- a reading that says that it was refused: the refusal beside it is reading's own
+pub turned : (s : List ℕ) (r : Reading) → r ≡ shown (reading s) → r .outcome ≡ Refused → reading s ≡ refusing (r .why)
+unfolding shown
 turned s r q e =
-    let o = turned-at r (reading s) q e in
-    record { number = o .0; place = o .1; is = o .2; outcome = o .3 }
+    refused-of (reading s) (sym (ap (λ (r : Reading). r .outcome) q) ∙ e) ∙ ap refusing (sym (ap (λ (r : Reading). r .why) q))

@@ -1,118 +1,121 @@
 -- Where a row's bytes stand in an accepted table.
 -- Assumes nothing.
-use mathlib.Core.Path.{_≡_, refl, sym, ap, _∙_}
-use mathlib.Core.Bool.{Bool, true, false, cond}
-use mathlib.Core.List.{List, [], _∷_, _++_, append-assoc}
+use mathlib.Core.Path.{_≡_, refl, sym, ap, subst, _∙_}
+use mathlib.Core.Bool.{Bool, true, false}
+use mathlib.Core.List.{List, _∷_, _++_, append-assoc, append-nil}
 use Prim.Native.Nat.{ℕ, suc, _+_, _-_, _≤_, _<_}
 use native.Mathlib.Omega.{arith}
 use native.Mathlib.Numerals.{add-one}
 use native.Mathlib.Nat.{add-sub-cancel-left}
 use lib.ListN.{length, getD, take, drop, length-append}
 use lib.Seq.{split-at, take-suc, take-at, drop-at}
-use lib.Dec.{ltb}
-use borrow.Author.Tests.{ltb-true, lt-ltb}
+use lib.Dec.{leb}
+use borrow.Author.Tests.{leb-false, lt-leb, le-leb}
+use Rattle.table.specs.declared.refusals.Refusal.{Refusal}
 use Rattle.table.specs.declared.entries.Entry.{Entry}
-use Rattle.table.specs.declared.Outcome.the-variants.{Read, Refused}
-use Rattle.table.specs.declared.lookup.Place.{Place}
+use Rattle.table.specs.declared.lookup.Part.{Part}
 use Rattle.table.specs.declared.lookup.Place.the-variants.{At, Missing}
-use Rattle.table.specs.Entries.{blank, rowLimit, numbersOf, bytesOf}
-use Rattle.table.specs.Reading.{Contents, Result, accepted, refused, reading, written, tableOf}
-use Rattle.table.specs.Lookup.{placeOf, partAt, entryBytes, entryOutcome}
-use Rattle.table.proofs.OneEntry.{length-bytes}
-use Rattle.table.proofs.Writing.{written-append, written-more, of-accepted}
+use Rattle.table.specs.Refusals.{notThere, ifMissing}
+use Rattle.table.specs.Said.{Said, answered, refusing, refusal, unless}
+use Rattle.table.specs.Entries.{blank, rowLimit, sizeOf, bytesOf}
+use Rattle.table.specs.Contents.{Contents, written}
+use Rattle.table.specs.Reading.{reading, tableOf}
+use Rattle.table.specs.Lookup.{partOf, placeOf, shownPlace, partAt}
 use Rattle.table.proofs.Padding.{padded-at, padded-front}
+use Rattle.table.proofs.Writing.{written-append, written-more, of-accepted}
 
 -- one row more adds its bytes to the start of the next
-pub start-more : (es : List Entry) (i : ℕ) → i < length es → length (written (take (i + 1) es)) ≡ length (written (take i es)) + 1 + numbersOf (getD es i blank)
+pub start-more : (es : List Entry) (i : ℕ) → i < length es → length (written (take (i + 1) es)) ≡ length (written (take i es)) + sizeOf (getD es i blank)
 start-more es i h =
     let e = getD es i blank in
-    rw (add-one i, take-suc es i blank h, written-more (take i es) e, length-append (written (take i es)) (bytesOf e), length-bytes e) (omega arith)
+    rw (add-one i, take-suc es i blank h, written-more (take i es) e, length-append (written (take i es)) (bytesOf e))
 
--- the bytes of an accepted table, taken apart at a row
-pub around : (s : List ℕ) (c : Contents) (r : ℕ) → reading s ≡ accepted c → r < length (c .rows) →
-    (written (take r (c .rows)) ++ (bytesOf (getD (c .rows) r blank) ++ (written (drop (suc r) (c .rows)) ++ written (c .questions)))) ≡ s
-unfolding written
-around s c r q h =
-    let e = getD (c .rows) r blank in
-    let w : written (c .rows) ≡ written (take r (c .rows)) ++ (bytesOf e ++ written (drop (suc r) (c .rows))) =
-    ap written (split-at (c .rows) r blank h) ∙ written-append (take r (c .rows)) (e ∷ drop (suc r) (c .rows)) in
-    rw (w, append-assoc, append-assoc) at (sym (written-append (c .rows) (c .questions)) ∙ of-accepted s c q .1)
+-- so a row starts behind those before it
+pub start-is : (c : Contents) (r : ℕ) → r < length (c .rows) → partOf r c .start ≡ length (written (take r (c .rows)))
+start-is c r h = rw (append-nil (take (suc r) (c .rows)), ← add-one r) (omega (arith, start-more (c .rows) r h))
 
-module _ (s : List ℕ) (c : Contents) (r : ℕ) (q : reading s ≡ accepted c) (h : r < length (c .rows)) where
-  abbrev start : ℕ
-  start = length (written (take r (c .rows)))
+-- what is said of a row that is there, and of one that is not
+pub place-there : (c : Contents) (r : ℕ) → r < length (c .rows) → placeOf (answered c) r ≡ answered (partOf r c)
+unfolding placeOf
+place-there c r h = rw (lt-leb _ _ h)
 
-  abbrev own : List ℕ
-  own = bytesOf (getD (c .rows) r blank)
+pub place-missing : (c : Contents) (r : ℕ) → length (c .rows) ≤ r → placeOf (answered c) r ≡ refusing (refusal notThere 0)
+unfolding placeOf
+place-missing c r h = rw (le-leb _ _ h)
 
-  abbrev rest : List ℕ
-  rest = written (drop (suc r) (c .rows)) ++ written (c .questions)
-
-  pub part-fits : start + length own ≤ length s
-  part-fits =
-      omega (arith, ap length (around s c r q h), length-append (written (take r (c .rows))) (own ++ rest), length-append own rest)
-
-  pub part-bytes : take (length own) (drop start s) ≡ own
-  part-bytes = rw (← around s c r q h, drop-at (written (take r (c .rows))) (own ++ rest) start refl, take-at own rest (length own) refl)
-
--- the place, from the struct of an accepted table
-pub found-place : (c : Contents) (r start n : ℕ) → r < length (c .rows) → start ≡ length (written (take r (tableOf c .rows))) →
-    n ≡ numbersOf (getD (tableOf c .rows) r blank) → At start (n + 1) ≡ placeOf (accepted c) r
-unfolding placeOf tableOf
-found-place c r start n h p q =
-    let a = padded-front blank rowLimit (c .rows) r (omega arith) in
-    let b = padded-at blank rowLimit (c .rows) r in
-    let l = length-bytes (getD (c .rows) r blank) in
-    rw (lt-ltb r (length (c .rows)) h, p, q, a, b, l, add-one)
+-- the part, from the struct of an accepted table
+pub found-part : (c : Contents) (r start n : ℕ) → r < length (c .rows) → start ≡ length (written (take r (tableOf c .rows))) →
+    n ≡ sizeOf (getD (tableOf c .rows) r blank) → _≡_ {A = Part} (record { start = start; length = n }) (partOf r c)
+unfolding tableOf
+found-part c r start n h p q =
+    let front = padded-front blank rowLimit (c .rows) r (omega arith) in
+    let at = padded-at blank rowLimit (c .rows) r in
+    rw (p, q, front, at, start-is c r h)
 
 -- what a place tells of the reading
-pub at-of : (x : Result) (r a b : ℕ) → placeOf x r ≡ At a b →
-    (c : Contents) × (x ≡ accepted c) × (r < length (c .rows)) × (a ≡ length (written (take r (c .rows)))) × (b ≡ length (bytesOf (getD (c .rows) r blank)))
+pub place-tells : (x : Said Contents) (r : ℕ) (part : Part) → placeOf x r ≡ answered part →
+    (c : Contents) × (x ≡ answered c) × (r < length (c .rows)) × (partOf r c ≡ part)
 unfolding placeOf
-at-of (accepted c) r a b q = go (ltb r (length (c .rows))) refl q
+place-tells (answered c) r part q = go (leb (length (c .rows)) r) refl q
   where
-    place : Place
-    place = At (length (written (take r (c .rows)))) (length (bytesOf (getD (c .rows) r blank)))
+    go : (b : Bool) → leb (length (c .rows)) r ≡ b → unless (ifMissing b) (answered (partOf r c)) ≡ answered part →
+        (d : Contents) × (answered c ≡ answered d) × (r < length (d .rows)) × (partOf r d ≡ part)
+    go true e q = absurd (let z : _≡_ {A = ℕ} 0 1 = cc in omega arith)
+    go false e q = (c, refl, leb-false _ _ e, cc)
+place-tells (refusing why) r part q = absurd (let z : _≡_ {A = ℕ} 0 1 = cc in omega arith)
 
-    go : (t : Bool) → ltb r (length (c .rows)) ≡ t → cond t place (Missing 8 0) ≡ At a b →
-        (d : Contents) × (accepted c ≡ accepted d) × (r < length (d .rows)) × (a ≡ length (written (take r (d .rows)))) × (b ≡ length (bytesOf (getD (d .rows) r blank)))
-    go true t q = (c, refl, ltb-true r (length (c .rows)) t, cc, cc)
-    go false t q = absurd (let z : _≡_ {A = ℕ} 0 1 = cc in omega arith)
-at-of (refused n p) r a b q = absurd (let z : _≡_ {A = ℕ} 0 1 = cc in omega arith)
+-- the bytes of an accepted table, taken apart at a row
+module _ (s : List ℕ) (c : Contents) (r : ℕ) (q : reading s ≡ answered c) (h : r < length (c .rows)) where
+  abbrev pub own : List ℕ
+  own = bytesOf (getD (c .rows) r blank)
 
--- the place, the bytes and the outcome go by one test
-pub at-entry : (x : Result) (r : ℕ) (c : Contents) → x ≡ accepted c → r < length (c .rows) →
-    (entryBytes x r ≡ bytesOf (getD (c .rows) r blank)) × (entryOutcome x r ≡ Read)
-unfolding entryBytes entryOutcome
-at-entry x r c q h = let t = lt-ltb r (length (c .rows)) h in (rw (q, t), rw (q, t))
+  abbrev pub front : List ℕ
+  front = written (take r (c .rows))
 
-pub missing-bytes : (x : Result) (r n p : ℕ) → placeOf x r ≡ Missing n p → (entryBytes x r ≡ []) × (entryOutcome x r ≡ Refused n p)
-unfolding placeOf entryBytes entryOutcome
-missing-bytes (accepted c) r n p q = go (ltb r (length (c .rows))) q
-  where
-    go : (t : Bool) → cond t (At (length (written (take r (c .rows)))) (length (bytesOf (getD (c .rows) r blank)))) (Missing 8 0) ≡ Missing n p →
-        (cond t (bytesOf (getD (c .rows) r blank)) [] ≡ []) × (cond t Read (Refused 8 0) ≡ Refused n p)
-    go true q = absurd (let z : _≡_ {A = ℕ} 0 1 = cc in omega arith)
-    go false q = (refl, cc)
-missing-bytes (refused m o) r n p q = (refl, cc)
+  abbrev pub back : List ℕ
+  back = written (drop (suc r) (c .rows)) ++ written (c .questions)
 
--- the part of the table at a place: it lies inside, holds the entry's bytes, and starts where the place says
-part-at : (s : List ℕ) (r a b : ℕ) (c : Contents) → reading s ≡ accepted c → r < length (c .rows) →
-    a ≡ length (written (take r (c .rows))) → b ≡ length (bytesOf (getD (c .rows) r blank)) →
-    (a + b ≤ length s) × (take (a + b - a) (drop a s) ≡ entryBytes (reading s) r)
-part-at s r a b c q h p l = (
-  rw (p, l) (part-fits s c r q h),
-  rw (add-sub-cancel-left a b, p, l) (part-bytes s c r q h ∙ sym (at-entry (reading s) r c q h .0)),
-)
+  pub around : front ++ (own ++ back) ≡ s
+  unfolding written
+  around =
+      let rows : written (c .rows) ≡ front ++ (own ++ written (drop (suc r) (c .rows))) =
+      ap written (split-at (c .rows) r blank h) ∙ written-append (take r (c .rows)) (getD (c .rows) r blank ∷ drop (suc r) (c .rows)) in
+      rw (rows, append-assoc, append-assoc) at (sym (written-append (c .rows) (c .questions)) ∙ of-accepted s c q .1)
 
-pub at-part : (s : List ℕ) (r a b : ℕ) → placeOf (reading s) r ≡ At a b →
-    (a + b ≤ length s) × (take (a + b - a) (drop a s) ≡ entryBytes (reading s) r) × (take (a + b - a) (drop a s) ≡ partAt (placeOf (reading s) r) s)
+  -- the row's part lies inside, and holds the row's own bytes
+  pub part-fits : partOf r c .start + partOf r c .length ≤ length s
+  part-fits = omega (arith, start-is c r h, ap length around, length-append front (own ++ back), length-append own back)
+
+  pub part-own : partAt (answered (partOf r c)) s ≡ own
+  unfolding partAt
+  part-own = rw (start-is c r h, ← around, drop-at front (own ++ back) (length front) refl, take-at own back (length own) refl)
+
+-- "Asking for row r gives back that entry's own bytes"
+pub own-bytes : (s : List ℕ) (c : Contents) (r : ℕ) → reading s ≡ answered c → r < length (c .rows) →
+    partAt (placeOf (reading s) r) s ≡ bytesOf (getD (c .rows) r blank)
+own-bytes s c r q h = rw (q, place-there c r h) (part-own s c r q h)
+
+-- a part that is lent: it lies inside, and holds what the definition says
+pub record Lent (s : List ℕ) (r : ℕ) (part : Part) : Type 0 where
+  pub inside : part .start + part .length ≤ length s
+  pub holds : take (part .start + part .length - part .start) (drop (part .start) s) ≡ partAt (placeOf (reading s) r) s
+
+pub lent : (s : List ℕ) (r : ℕ) (part : Part) → placeOf (reading s) r ≡ answered part → Lent s r part
 unfolding partAt
-at-part s r a b q =
-    let o = at-of (reading s) r a b q in
-    let h = part-at s r a b (o .0) (o .1) (o .2) (o .3) (o .4) in
-    (h .0, h .1, rw (q, add-sub-cancel-left a b))
+lent s r part q =
+    let o = place-tells (reading s) r part q in
+    record {
+      inside = subst (λ (p : Part). p .start + p .length ≤ length s) (o .3) (part-fits s (o .0) r (o .1) (o .2));
+      holds = rw (q, add-sub-cancel-left (part .start) (part .length));
+    }
 
-pub missing-part : (s : List ℕ) (r n p : ℕ) → placeOf (reading s) r ≡ Missing n p → ([] ≡ entryBytes (reading s) r) × ([] ≡ partAt (placeOf (reading s) r) s)
-unfolding partAt
-missing-part s r n p q = (sym (missing-bytes (reading s) r n p q .0), rw q)
+-- what was said, from the place that shows it
+pub at-part : (x : Said Part) (part : Part) → shownPlace x ≡ At part → x ≡ answered part
+unfolding shownPlace
+at-part (answered other) part q = cc
+at-part (refusing why) part q = absurd (let z : _≡_ {A = ℕ} 0 1 = cc in omega arith)
+
+pub missing-part : (x : Said Part) (why : Refusal) → shownPlace x ≡ Missing why → x ≡ refusing why
+unfolding shownPlace
+missing-part (answered part) why q = absurd (let z : _≡_ {A = ℕ} 0 1 = cc in omega arith)
+missing-part (refusing other) why q = cc

@@ -8,8 +8,8 @@ use native.Mathlib.Numerals.{add-one}
 use lib.ListN.{length, getD, set, replicate, length-append, List·getD-append}
 use lib.Seq.{getD-at}
 use Rattle.table.specs.declared.entries.Entry.{Entry}
-use Rattle.table.specs.Kinds.{byteOf, kindOf}
-use Rattle.table.specs.Entries.{blank}
+use Rattle.table.specs.Kinds.{formOf, kindOf}
+use Rattle.table.specs.Entries.{numberLimit, blank}
 use Rattle.table.specs.Reading.{padded}
 use Rattle.table.specs.Flat.{upTo, flat, kindIn, entriesIn}
 use Rattle.table.proofs.KindTable.{kind-of-byte}
@@ -26,28 +26,32 @@ unfolding flat
 flat-length [] = refl
 flat-length (e ∷ es) = let h = flat-length es in omega arith
 
-flat-more : (es : List Entry) (e : Entry) → flat (es ++ (e ∷ [])) ≡ ((flat es ++ (byteOf (e .kind) ∷ [])) ++ (e .a ∷ [])) ++ (e .b ∷ [])
+flat-more : (es : List Entry) (e : Entry) → flat (es ++ (e ∷ [])) ≡ ((flat es ++ (formOf (e .kind) .byte ∷ [])) ++ (e .a ∷ [])) ++ (e .b ∷ [])
 unfolding flat
 flat-more [] e = refl
-flat-more (x ∷ es) e = ap (λ (l : List ℕ). byteOf (x .kind) ∷ x .a ∷ x .b ∷ l) (flat-more es e)
+flat-more (x ∷ es) e = ap (λ (l : List ℕ). formOf (x .kind) .byte ∷ x .a ∷ x .b ∷ l) (flat-more es e)
 
 -- one turn of a loop that writes entries into an array of n numbers
-pub flat-turn : (es : List Entry) (n i k : ℕ) (run : List ℕ) → 3 * i + 2 < n → run ≡ padded 0 n (flat (upTo es i)) → k ≡ byteOf (getD es i blank .kind) →
+pub flat-turn : (es : List Entry) (n i k : ℕ) (run : List ℕ) → 3 * i + 2 < n → run ≡ padded 0 n (flat (upTo es i)) → k ≡ formOf (getD es i blank .kind) .byte →
     set (set (set run (3 * i) k) (3 * i + 1) (getD es i blank .a)) (3 * i + 2) (getD es i blank .b) ≡ padded 0 n (flat (upTo es (i + 1)))
 unfolding upTo
 flat-turn es n i k run h q r =
     let e = getD es i blank in
     let l = flat (upTo es i) in
     let m : length l ≡ 3 * i = flat-length (upTo es i) ∙ ap (λ (x : ℕ). 3 * x) (upTo-length es i) in
-    let m₁ : length (l ++ (byteOf (e .kind) ∷ [])) ≡ 3 * i + 1 = length-append l (byteOf (e .kind) ∷ []) ∙ omega (arith, m) in
-    let m₂ : length ((l ++ (byteOf (e .kind) ∷ [])) ++ (e .a ∷ [])) ≡ 3 * i + 2 = length-append (l ++ (byteOf (e .kind) ∷ [])) (e .a ∷ []) ∙ omega (arith, m₁) in
+    let m₁ : length (l ++ (formOf (e .kind) .byte ∷ [])) ≡ 3 * i + 1 = length-append l (formOf (e .kind) .byte ∷ []) ∙ omega (arith, m) in
+    let m₂ : length ((l ++ (formOf (e .kind) .byte ∷ [])) ++ (e .a ∷ [])) ≡ 3 * i + 2 = length-append (l ++ (formOf (e .kind) .byte ∷ [])) (e .a ∷ []) ∙
+    omega (arith, m₁) in
     rw (add-one i, flat-more (upTo es i) e, q, r)
-    (ap (λ (x : List ℕ). set (set x (3 * i + 1) (e .a)) (3 * i + 2) (e .b)) (ap (λ (x : ℕ). set (padded 0 n l) x (byteOf (e .kind))) (sym m) ∙ padded-more 0 n l (byteOf (e .kind)) (omega arith))
-    ∙ ap (λ (x : List ℕ). set x (3 * i + 2) (e .b)) (ap (λ (x : ℕ). set (padded 0 n (l ++ (byteOf (e .kind) ∷ []))) x (e .a)) (sym m₁) ∙ padded-more 0 n (l ++ (byteOf (e .kind) ∷ [])) (e .a) (omega arith))
-    ∙ ap (λ (x : ℕ). set (padded 0 n ((l ++ (byteOf (e .kind) ∷ [])) ++ (e .a ∷ []))) x (e .b)) (sym m₂) ∙ padded-more 0 n ((l ++ (byteOf (e .kind) ∷ [])) ++ (e .a ∷ [])) (e .b) (omega arith))
+    (ap (λ (x : List ℕ). set (set x (3 * i + 1) (e .a)) (3 * i + 2) (e .b))
+    (ap (λ (x : ℕ). set (padded 0 n l) x (formOf (e .kind) .byte)) (sym m) ∙ padded-more 0 n l (formOf (e .kind) .byte) (omega arith))
+    ∙ ap (λ (x : List ℕ). set x (3 * i + 2) (e .b)) (ap (λ (x : ℕ). set (padded 0 n (l ++ (formOf (e .kind) .byte ∷ []))) x (e .a)) (sym m₁) ∙ padded-more 0 n
+    (l ++ (formOf (e .kind) .byte ∷ [])) (e .a) (omega arith))
+    ∙ ap (λ (x : ℕ). set (padded 0 n ((l ++ (formOf (e .kind) .byte ∷ [])) ++ (e .a ∷ []))) x (e .b)) (sym m₂) ∙ padded-more 0 n
+    ((l ++ (formOf (e .kind) .byte ∷ [])) ++ (e .a ∷ [])) (e .b) (omega arith))
 
 -- a run holds the entries that it was made of, and behind them blank ones
-kind-back : (e : Entry) → kindIn (byteOf (e .kind)) ≡ e .kind
+kind-back : (e : Entry) → kindIn (formOf (e .kind) .byte) ≡ e .kind
 unfolding kindIn
 kind-back e = rw (kind-of-byte (e .kind))
 
@@ -98,7 +102,8 @@ held-at (k ∷ a ∷ b ∷ l) (suc i) h =
     ∙ ap₂ (entryFrom (k ∷ a ∷ b ∷ l) (3 * suc i)) q r
 
 -- a run of bytes holds entries whose numbers are bytes
-pub held-small : (l : List ℕ) → ((i : ℕ) → getD l i 0 < 256) → (i : ℕ) → (getD (entriesIn l) i blank .a < 256) × (getD (entriesIn l) i blank .b < 256)
+pub held-small : (l : List ℕ) → ((i : ℕ) → getD l i 0 < numberLimit) → (i : ℕ) →
+    (getD (entriesIn l) i blank .a < numberLimit) × (getD (entriesIn l) i blank .b < numberLimit)
 unfolding entriesIn
 held-small [] h i = (omega arith, omega arith)
 held-small (k ∷ []) h i = (omega arith, omega arith)

@@ -1,82 +1,98 @@
--- What a step says of the bytes that it was taken from, and the step that an entry's own bytes bring.
+-- What a kind byte and the bytes behind it are decoded to, and what a step says of them.
 -- Assumes nothing.
-use mathlib.Core.Path.{_≡_, refl}
-use mathlib.Core.Bool.{Bool, true, false, cond}
+use mathlib.Core.Path.{_≡_, refl, sym, _∙_}
+use mathlib.Core.Bool.{Bool, true, false}
 use mathlib.Core.List.{List}
-use Prim.Native.Nat.{ℕ, zero, suc, _-_, _≤_}
+use Prim.Native.Nat.{ℕ, _-_, _≤_, _<_}
+use native.Mathlib.Omega.{arith}
 use lib.ListN.{length}
 use lib.Dec.{ltb}
-use borrow.Author.Tests.{ltb-true, ltb-false}
+use borrow.Author.Tests.{ltb-true, ltb-false, lt-ltb, le-ltb}
 use Rattle.table.specs.declared.kinds.Kind.{Kind}
 use Rattle.table.specs.declared.kinds.Announced.{Announced}
 use Rattle.table.specs.declared.kinds.Announced.the-variants.{Listed, Unlisted}
 use Rattle.table.specs.declared.entries.Entry.{Entry}
-use Rattle.table.specs.declared.entries.Step.{Step}
-use Rattle.table.specs.declared.entries.Step.the-variants.{Row, Question, Bad}
-use Rattle.table.specs.Kinds.{byteOf, kindOf, formOf}
-use Rattle.table.specs.Entries.{isRow, numbersOf, noRoom, limit, numberAt, named, placed, bodyStep, unless, stepBy, stepOf}
+use Rattle.table.specs.declared.entries.Tally.{Tally}
+use Rattle.table.specs.declared.entries.Decoded.{Decoded}
+use Rattle.table.specs.declared.entries.Decoded.the-variants.{Unknown, Cut, Full}
+use Rattle.table.specs.declared.entries.Step.the-variants.{Took, Bad}
+use Rattle.table.specs.declared.refusals.Refusal.{Refusal}
+use Rattle.table.specs.Refusals.{unlisted, cutShort}
+use Rattle.table.specs.Said.{Said, answered, refusing, refusal, unless}
+use Rattle.table.specs.Kinds.{kindOf, formOf}
+use Rattle.table.specs.Entries.{numbersOf, numberAt, bodyOf, decodedBy, decoded}
+use Rattle.table.specs.Entries.{noRoom, misnaming, permitted, judged, stepOf, shownStep}
 use Rattle.table.proofs.KindTable.{byte-of-kind}
-use Rattle.table.proofs.OneEntry.{body-cut, body-named, body-misnamed}
+use Rattle.table.proofs.Saying.{unless-answered}
+use Rattle.table.proofs.Permission.{Allowed, allowed-if, Given, given, unless-given, room-given, misnaming-given}
 
--- what a table with so many rows and questions must allow of an entry
-pub record Allowed (rows questions : ℕ) (e : Entry) : Type 0 where
-  pub room : noRoom (isRow e) rows questions ≡ 0
-  pub names : named (numbersOf e) (limit (formOf (e .kind) .names) rows questions) (e .a) (e .b) ≡ true
+-- the two ways that a body goes
+pub body-cut : (kind : Kind) (body : List ℕ) → length body < formOf kind .numbers → bodyOf kind body ≡ Cut kind
+unfolding bodyOf
+body-cut kind body h = simp (lt-ltb _ _ h)
 
--- an entry that was read from a kind byte and the bytes behind it
-pub record Took (k : ℕ) (body : List ℕ) (rows questions : ℕ) (e : Entry) : Type 0 where
-  pub byte : byteOf (e .kind) ≡ k
+pub body-whole : (kind : Kind) (body : List ℕ) → formOf kind .numbers ≤ length body →
+    bodyOf kind body ≡ Full (record { kind = kind; a = numberAt (formOf kind .numbers) 0 body; b = numberAt (formOf kind .numbers) 1 body })
+unfolding bodyOf
+body-whole kind body h = simp (le-ltb _ _ h)
+
+-- an entry that was decoded from a kind byte and the bytes behind it
+pub record Decodes (k : ℕ) (body : List ℕ) (e : Entry) : Type 0 where
+  pub byte : formOf (e .kind) .byte ≡ k
   pub whole : numbersOf e ≤ length body
   pub first : e .a ≡ numberAt (numbersOf e) 0 body
   pub second : e .b ≡ numberAt (numbersOf e) 1 body
-  pub allowed : Allowed rows questions e
 
-abbrev pub Said : ℕ → List ℕ → ℕ → ℕ → Step → Type 0
-Said k body rows questions (Row e) = Took k body rows questions e × (isRow e ≡ true)
-Said k body rows questions (Question e) = Took k body rows questions e × (isRow e ≡ false)
-Said k body rows questions (Bad n) = Unit
+decodes : (k : ℕ) (body : List ℕ) (e : Entry) → decoded k body ≡ Full e → Decodes k body e
+unfolding decoded
+decodes k body e q = go (kindOf k) refl q
+  where
+    go : (a : Announced) → kindOf k ≡ a → decodedBy a body ≡ Full e → Decodes k body e
+    go Unlisted p q = absurd (let z : _≡_ {A = ℕ} 0 1 = cc in omega arith)
+    go (Listed kind) p q = cut (ltb (length body) (formOf kind .numbers)) refl
+      where
+        cut : (b : Bool) → ltb (length body) (formOf kind .numbers) ≡ b → Decodes k body e
+        cut true l = absurd (let c = sym (body-cut kind body (ltb-true _ _ l)) ∙ q in let z : _≡_ {A = ℕ} 0 1 = cc c in omega arith)
+        cut false l =
+            let w = ltb-false _ _ l in
+            let c = sym (body-whole kind body w) ∙ q in
+            let own : Entry = record { kind = kind; a = numberAt (formOf kind .numbers) 0 body; b = numberAt (formOf kind .numbers) 1 body } in
+            let it : Decodes k body own = record { byte = byte-of-kind k kind p; whole = w; first = refl; second = refl } in
+            let same : own ≡ e = cc c in
+            rw same at it
 
-module _ (k : ℕ) (body : List ℕ) (rows questions : ℕ) where
-  said-placed : (e : Entry) → Took k body rows questions e → Said k body rows questions (placed e)
-  said-placed e t = go (isRow e) refl
-    where
-      go : (b : Bool) → isRow e ≡ b → Said k body rows questions (cond b (Row e) (Question e))
-      go true q = (t, q)
-      go false q = (t, q)
+-- an entry that was read: what it was decoded from, and that it is allowed
+pub step-took : (k : ℕ) (body : List ℕ) (before : Tally) (e : Entry) → stepOf k body before ≡ answered e → Decodes k body e × Allowed before e
+unfolding stepOf judged
+step-took k body before e q = go (decoded k body) refl q
+  where
+    go : (d : Decoded) → decoded k body ≡ d → judged d before ≡ answered e → Decodes k body e × Allowed before e
+    go Unknown p q = absurd (let z : _≡_ {A = ℕ} 0 1 = cc in omega arith)
+    go (Cut kind) p q =
+        let c = unless-answered (noRoom kind before) (refusing (refusal cutShort 0)) e q .1 in
+        absurd (let z : _≡_ {A = ℕ} 0 1 = cc c in omega arith)
+    go (Full f) p q = let h = allowed-if f e before q in (decodes k body e (rw (h .0) at p), rw (h .0) at (h .1))
 
-  said-body : (kind : Kind) → byteOf kind ≡ k → noRoom (formOf kind .row) rows questions ≡ 0 → Said k body rows questions (bodyStep kind body rows questions)
-  said-body kind b r = cut (ltb (length body) (formOf kind .numbers)) refl
-    where
-      e : Entry
-      e = record { kind = kind; a = numberAt (formOf kind .numbers) 0 body; b = numberAt (formOf kind .numbers) 1 body }
+pub step-given : (k : ℕ) (body : List ℕ) (before : Tally) (why : Refusal) → stepOf k body before ≡ refusing why → Given why
+unfolding stepOf judged permitted
+step-given k body before why q = go (decoded k body) q
+  where
+    go : (d : Decoded) → judged d before ≡ refusing why → Given why
+    go Unknown q = let same : refusal unlisted 0 ≡ why = cc in rw same at (given unlisted refl)
+    go (Cut kind) q =
+        unless-given (noRoom kind before) (refusing (refusal cutShort 0)) why (room-given kind before)
+        (λ p. let same : refusal cutShort 0 ≡ why = cc in rw same at (given cutShort refl)) q
+    go (Full e) q =
+        unless-given (noRoom (e .kind) before) (unless (misnaming e before) (answered e)) why (room-given (e .kind) before)
+        (unless-given (misnaming e before) (answered e) why (misnaming-given e before) (λ p. absurd (let z : _≡_ {A = ℕ} 0 1 = cc in omega arith))) q
 
-      fits : Bool
-      fits = named (formOf kind .numbers) (limit (formOf kind .names) rows questions) (e .a) (e .b)
+-- what was said, from the step that shows it
+pub took : (x : Said Entry) (e : Entry) → shownStep x ≡ Took e → x ≡ answered e
+unfolding shownStep
+took (answered f) e q = cc
+took (refusing why) e q = absurd (let z : _≡_ {A = ℕ} 0 1 = cc in omega arith)
 
-      all : formOf kind .numbers ≤ length body → (t : Bool) → fits ≡ t → Said k body rows questions (bodyStep kind body rows questions)
-      all h true q = rw (body-named kind body rows questions h q) (said-placed e (record { byte = b; whole = h; first = refl; second = refl; allowed = record { room = r; names = q } }))
-      all h false q = rw (body-misnamed kind body rows questions h q) tt
-
-      cut : (t : Bool) → ltb (length body) (formOf kind .numbers) ≡ t → Said k body rows questions (bodyStep kind body rows questions)
-      cut true q = rw (body-cut kind body rows questions (ltb-true _ _ q)) tt
-      cut false q = all (ltb-false _ _ q) fits refl
-
-  said-listed : (kind : Kind) → byteOf kind ≡ k → Said k body rows questions (stepBy (Listed kind) body rows questions)
-  unfolding stepBy
-  said-listed kind b = go (noRoom (formOf kind .row) rows questions) refl
-    where
-      go : (n : ℕ) → noRoom (formOf kind .row) rows questions ≡ n → Said k body rows questions (unless n (bodyStep kind body rows questions))
-      go zero q = said-body kind b q
-      go (suc n) q = tt
-
-  pub step-said : Said k body rows questions (stepOf k body rows questions)
-  unfolding stepOf stepBy
-  step-said = go (kindOf k) refl
-    where
-      go : (a : Announced) → kindOf k ≡ a → Said k body rows questions (stepBy a body rows questions)
-      go Unlisted q = tt
-      go (Listed kind) q = said-listed kind (byte-of-kind k kind q)
-
--- once it is known which step it is
-pub said-of : (k : ℕ) (body : List ℕ) (rows questions : ℕ) (s : Step) → stepOf k body rows questions ≡ s → Said k body rows questions s
-said-of k body rows questions s q = rw q at (step-said k body rows questions)
+pub turned-away : (x : Said Entry) (why : Refusal) → shownStep x ≡ Bad why → x ≡ refusing why
+unfolding shownStep
+turned-away (answered f) why q = absurd (let z : _≡_ {A = ℕ} 0 1 = cc in omega arith)
+turned-away (refusing other) why q = cc

@@ -1,30 +1,35 @@
 -- One turn of the reading loop: what holds at its head, and that an entry more keeps it.
 -- Assumes nothing.
 use mathlib.Core.Path.{_≡_, refl, sym, ap, _∙_}
-use mathlib.Core.Bool.{Bool, true, false, cond}
 use mathlib.Core.List.{List, [], _∷_, _++_}
 use Prim.Native.Nat.{ℕ, zero, suc, _+_, _-_, _≤_, _<_, max}
 use native.Mathlib.Omega.{arith}
 use native.Mathlib.Numerals.{add-one}
 use lib.ListN.{length, getD, drop, set, length-append, length-drop, drop-of-length-le}
 use lib.Seq.{drop-cons, drop-drop}
-use lib.Dec.{ltb}
-use borrow.Author.Tests.{ltb-true, ltb-false, lt-ltb}
+use Rattle.table.specs.declared.refusals.Refusal.{Refusal}
+use Rattle.table.specs.declared.kinds.RowKind.{RowKind}
+use Rattle.table.specs.declared.kinds.QuestionKind.{QuestionKind}
+use Rattle.table.specs.declared.kinds.Kind.{Kind}
+use Rattle.table.specs.declared.kinds.Kind.the-variants.{Row, Question}
 use Rattle.table.specs.declared.entries.Entry.{Entry}
-use Rattle.table.specs.declared.entries.Step.{Step}
-use Rattle.table.specs.declared.entries.Step.the-variants.{Row, Question, Bad}
+use Rattle.table.specs.declared.entries.Tally.{Tally}
 use Rattle.table.specs.declared.Table.{Table}
-use Rattle.table.specs.Entries.{blank, uses, numbersOf, rowLimit, questionLimit, stepOf, noRoom}
-use Rattle.table.specs.Reading.{Contents, none, withRow, withQuestion, Result, accepted, refused, after, readOn, reading, predicates, tableOf}
+use Rattle.table.specs.Said.{Said, answered, refusing, refusal}
+use Rattle.table.specs.Entries.{blank, uses, sizeOf, rowLimit, questionLimit, oneMore, noRoom, stepOf}
+use Rattle.table.specs.Contents.{Contents, none, tallyOf, withKind, withEntry, highest}
+use Rattle.table.specs.Reading.{after, readOn, reading, tableOf}
 use Rattle.table.proofs.Padding.{padded-more}
-use Rattle.table.proofs.Steps.{said-of}
+use Rattle.table.proofs.OneEntry.{size}
+use Rattle.table.proofs.Permission.{room-of}
+use Rattle.table.proofs.Steps.{step-took}
 
 -- how many entries more are looked for does not matter, once there are as many as bytes
-after-same : (s : Step) (c : Contents) (at : ℕ) (f g : ℕ → Contents → Result) → ((n : ℕ) (c : Contents) → f n c ≡ g n c) → after s c at f ≡ after s c at g
+after-same : (x : Said Entry) (c : Contents) (at : ℕ) (f g : ℕ → Contents → Said Contents) → ((e : Entry) (c : Contents) → f (sizeOf e) c ≡ g (sizeOf e) c) →
+    after x c at f ≡ after x c at g
 unfolding after
-after-same (Row e) c at f g h = h (numbersOf e) (withRow c e)
-after-same (Question e) c at f g h = h (numbersOf e) (withQuestion c e)
-after-same (Bad n) c at f g h = refl
+after-same (answered e) c at f g h = h e (withEntry c e)
+after-same (refusing why) c at f g h = refl
 
 pub enough : (f g : ℕ) (c : Contents) (at : ℕ) (s : List ℕ) → length s ≤ f → length s ≤ g → readOn f c at s ≡ readOn g c at s
 unfolding readOn
@@ -35,25 +40,14 @@ enough (suc f) zero c at [] p q = refl
 enough (suc f) zero c at (k ∷ s) p q = absurd (omega arith)
 enough (suc f) (suc g) c at [] p q = refl
 enough (suc f) (suc g) c at (k ∷ s) p q =
-    after-same (stepOf k s (length (c .rows)) (length (c .questions))) c at _ _
-    (λ n c. enough f g c (at + 1 + n) (drop n s) (omega (arith, length-drop n s)) (omega (arith, length-drop n s)))
+    after-same (stepOf k s (tallyOf c)) c at _ _
+    (λ e c. let l = length-drop (sizeOf e) (k ∷ s) in
+    enough f g c (at + sizeOf e) (drop (sizeOf e) (k ∷ s)) (omega (arith, size e, l)) (omega (arith, size e, l)))
 
-predicates-more : (es : List Entry) (e : Entry) → predicates (es ++ (e ∷ [])) ≡ max (predicates es) (uses e)
-unfolding predicates
-predicates-more [] e = omega arith
-predicates-more (x ∷ es) e = let h = predicates-more es e in omega (arith, h)
-
--- the struct with one row more, and with one question more
-pub row-more : (t : Table) (c : Contents) (e : Entry) (p : ℕ) → t ≡ tableOf c → length (c .rows) < rowLimit → p ≡ max (t .predicates) (uses e) →
-    _≡_ {A = Table} (record { rows = set (t .rows) (t .used) e; questions = t .questions; used = t .used + 1; asked = t .asked; predicates = p }) (tableOf (withRow c e))
-unfolding tableOf
-row-more t c e p q h r =
-    rw (r, q, padded-more blank rowLimit (c .rows) e h, predicates-more (c .rows) e, length-append (c .rows) (e ∷ []))
-
-pub question-more : (t : Table) (c : Contents) (e : Entry) → t ≡ tableOf c → length (c .questions) < questionLimit →
-    _≡_ {A = Table} (record { rows = t .rows; questions = set (t .questions) (t .asked) e; used = t .used; asked = t .asked + 1; predicates = t .predicates }) (tableOf (withQuestion c e))
-unfolding tableOf
-question-more t c e q h = rw (q, padded-more blank questionLimit (c .questions) e h, length-append (c .questions) (e ∷ []))
+highest-more : (es : List Entry) (e : Entry) → highest (es ++ (e ∷ [])) ≡ max (highest es) (uses e)
+unfolding highest
+highest-more [] e = omega arith
+highest-more (x ∷ es) e = let h = highest-more es e in omega (arith, h)
 
 -- what holds at the loop's head: the struct stands for what was read so far, and reading on from there is reading the whole
 pub record At (s : List ℕ) (t : Table) (at : ℕ) : Type 0 where
@@ -69,100 +63,80 @@ start s t q = record { contents = none; stands = q; inside = omega arith; left =
     sub-zero : (n : ℕ) → n - 0 ≡ n
     sub-zero n = omega arith
 
--- what room means: a row needs a place and no question before it, a question a place
-abbrev pub Room : Bool → ℕ → ℕ → Type 0
-Room true rows questions = (rows < rowLimit) × (questions ≡ 0)
-Room false rows questions = questions < questionLimit
-
-pub room-of : (b : Bool) (rows questions : ℕ) → noRoom b rows questions ≡ 0 → Room b rows questions
-unfolding noRoom
-room-of true rows questions e = go (ltb 0 questions) refl (ltb rows rowLimit) refl e
-  where
-    go : (p : Bool) → ltb 0 questions ≡ p → (q : Bool) → ltb rows rowLimit ≡ q → _≡_ {A = ℕ} (cond p 5 (cond q 0 6)) 0 → Room true rows questions
-    go true p q r e = absurd (omega arith)
-    go false p true r e = (ltb-true rows rowLimit r, (let h = ltb-false 0 questions p in omega arith))
-    go false p false r e = absurd (omega arith)
-room-of false rows questions e = go (ltb questions questionLimit) refl e
-  where
-    go : (p : Bool) → ltb questions questionLimit ≡ p → _≡_ {A = ℕ} (cond p 0 7) 0 → questions < questionLimit
-    go true p e = ltb-true questions questionLimit p
-    go false p e = absurd (omega arith)
-
-pub room-for : (b : Bool) (rows questions : ℕ) → Room b rows questions → noRoom b rows questions ≡ 0
-unfolding noRoom
-room-for true rows questions h = rw (h .1) (simp (lt-ltb _ _ (h .0)))
-room-for false rows questions h = simp (lt-ltb _ _ h)
-
 -- one turn, at a place where a byte stands
 module _ (s : List ℕ) (t : Table) (at : ℕ) (h : At s t at) (l : at < length s) where
-  abbrev here : Step
-  here = stepOf (getD s at 0) (drop (at + 1) s) (t .used) (t .asked)
+  abbrev pub here : Said Entry
+  here = stepOf (getD s at 0) (drop (at + 1) s) (t .tally)
 
-  -- the struct's two lengths are those of the lists
-  used-is : t .used ≡ length (h .contents .rows)
+  tally-is : t .tally ≡ tallyOf (h .contents)
   unfolding tableOf
-  used-is = ap (λ (t : Table). t .used) (h .stands)
+  tally-is = ap (λ (t : Table). t .tally) (h .stands)
 
-  asked-is : t .asked ≡ length (h .contents .questions)
-  unfolding tableOf
-  asked-is = ap (λ (t : Table). t .asked) (h .stands)
-
-  counts : stepOf (getD s at 0) (drop (at + 1) s) (length (h .contents .rows)) (length (h .contents .questions)) ≡ here
-  counts = rw (← used-is, ← asked-is)
-
-  turn : after here (h .contents) at (λ n c. readOn (length s - (at + 1)) c (at + 1 + n) (drop n (drop (at + 1) s))) ≡ reading s
+  turn : after here (h .contents) at (λ size c. readOn (length s - (at + 1)) c (at + size) (drop size (drop at s))) ≡ reading s
   unfolding readOn
   turn =
       let f : length s - at ≡ suc (length s - (at + 1)) = omega arith in
-      rw (← counts) (rw (drop-cons s at 0 l, f, ← add-one at) at (h .left))
+      rw (tally-is, drop-cons s at 0 l, ← add-one at) (rw (drop-cons s at 0 l, f, ← add-one at) at (h .left))
 
-  pub bad : (n : ℕ) → here ≡ Bad n → reading s ≡ refused n at
+  pub bad : (why : Refusal) → here ≡ refusing why → reading s ≡ refusing (refusal (why .number) (at + why .place))
   unfolding after
-  bad n q = sym (rw q at turn)
+  bad why q = sym (rw q at turn)
 
-  -- behind an entry that was read, fewer bytes are left
-  onward : (e : Entry) (c : Contents) → numbersOf e ≤ length (drop (at + 1) s) →
-      readOn (length s - (at + 1)) c (at + 1 + numbersOf e) (drop (numbersOf e) (drop (at + 1) s)) ≡ reading s →
-      (at + 1 + numbersOf e ≤ length s) × (readOn (length s - (at + 1 + numbersOf e)) c (at + 1 + numbersOf e) (drop (at + 1 + numbersOf e) s) ≡ reading s)
-  onward e c w q =
-      let n : length (drop (at + 1) s) ≡ length s - (at + 1) = length-drop (at + 1) s in
-      let m : length (drop (at + 1 + numbersOf e) s) ≡ length s - (at + 1 + numbersOf e) = length-drop (at + 1 + numbersOf e) s in
-      (omega arith, enough _ _ c (at + 1 + numbersOf e) (drop (at + 1 + numbersOf e) s) (omega arith) (omega arith) ∙ rw (drop-drop (numbersOf e) (at + 1) s) at q)
+  -- an entry that was read lies within the bytes, and the loop's head holds again behind it
+  pub inside-of : (e : Entry) → here ≡ answered e → at + sizeOf e ≤ length s
+  inside-of e q = let w = step-took (getD s at 0) (drop (at + 1) s) (t .tally) e q in omega (arith, w .0 .whole, size e, length-drop (at + 1) s)
 
-  -- a row, a question: room for it, and the loop's head again
-  pub row-room : (e : Entry) → here ≡ Row e → (t .used < rowLimit) × (at + 1 + numbersOf e ≤ length s)
-  row-room e q =
-      let w = said-of (getD s at 0) (drop (at + 1) s) (t .used) (t .asked) (Row e) q in
-      (room-of true (t .used) (t .asked) (rw (w .1) at (w .0 .allowed .room)) .0, let n = length-drop (at + 1) s in let k = w .0 .whole in omega arith)
-
-  pub row-turn : (e : Entry) (p : ℕ) → here ≡ Row e → p ≡ max (t .predicates) (uses e) →
-      At s (record { rows = set (t .rows) (t .used) e; questions = t .questions; used = t .used + 1; asked = t .asked; predicates = p }) (at + 1 + numbersOf e)
+  pub taken : (e : Entry) (u : Table) → here ≡ answered e → u ≡ tableOf (withEntry (h .contents) e) → At s u (at + sizeOf e)
   unfolding after
-  row-turn e p q r =
-      let w = said-of (getD s at 0) (drop (at + 1) s) (t .used) (t .asked) (Row e) q in
-      let fits : length (h .contents .rows) < rowLimit = rw used-is at (row-room e q .0) in
-      let on = onward e (withRow (h .contents) e) (w .0 .whole) (rw q at turn) in
-      record { contents = withRow (h .contents) e; stands = row-more t (h .contents) e p (h .stands) fits r; inside = on .0; left = on .1 }
+  taken e u q r =
+      let on = rw (q, drop-drop (sizeOf e) at s) at turn in
+      let n = length-drop (at + sizeOf e) s in
+      record {
+        contents = withEntry (h .contents) e;
+        stands = r;
+        inside = inside-of e q;
+        left = enough _ _ (withEntry (h .contents) e) (at + sizeOf e) (drop (at + sizeOf e) s) (omega (arith, n)) (omega (arith, n, size e)) ∙ on;
+      }
 
-  pub question-room : (e : Entry) → here ≡ Question e → (t .asked < questionLimit) × (at + 1 + numbersOf e ≤ length s)
-  question-room e q =
-      let w = said-of (getD s at 0) (drop (at + 1) s) (t .used) (t .asked) (Question e) q in
-      (room-of false (t .used) (t .asked) (rw (w .1) at (w .0 .allowed .room)), let n = length-drop (at + 1) s in let k = w .0 .whole in omega arith)
+  -- there is room for it, as a row or as a question
+  pub room-here : (e : Entry) → here ≡ answered e → noRoom (e .kind) (t .tally) ≡ 0
+  room-here e q = step-took (getD s at 0) (drop (at + 1) s) (t .tally) e q .1 .room
 
-  pub question-turn : (e : Entry) → here ≡ Question e →
-      At s (record { rows = t .rows; questions = set (t .questions) (t .asked) e; used = t .used; asked = t .asked + 1; predicates = t .predicates }) (at + 1 + numbersOf e)
-  unfolding after
-  question-turn e q =
-      let w = said-of (getD s at 0) (drop (at + 1) s) (t .used) (t .asked) (Question e) q in
-      let fits : length (h .contents .questions) < questionLimit = rw asked-is at (question-room e q .0) in
-      let on = onward e (withQuestion (h .contents) e) (w .0 .whole) (rw q at turn) in
-      record { contents = withQuestion (h .contents) e; stands = question-more t (h .contents) e (h .stands) fits; inside = on .0; left = on .1 }
+  pub row-room : (e : Entry) (k : RowKind) → here ≡ answered e → e .kind ≡ Row k → t .tally .rows < rowLimit
+  row-room e k q p = room-of (Row k) (t .tally) (rw p at (room-here e q)) .0
+
+  pub question-room : (e : Entry) (k : QuestionKind) → here ≡ answered e → e .kind ≡ Question k → t .tally .questions < questionLimit
+  question-room e k q p = room-of (Question k) (t .tally) (rw p at (room-here e q))
+
+  -- the struct with it in its place, and with it counted
+  pub row-more : (e : Entry) (k : RowKind) (m : Table) (n : ℕ) (u : Tally) → here ≡ answered e → e .kind ≡ Row k → n ≡ max (t .predicates) (uses e) →
+      m ≡ record { rows = set (t .rows) (t .tally .rows) e; questions = t .questions; tally = t .tally; predicates = n } → u ≡ oneMore (e .kind) (t .tally) →
+      _≡_ {A = Table} (record { rows = m .rows; questions = m .questions; tally = u; predicates = m .predicates }) (tableOf (withEntry (h .contents) e))
+  unfolding tableOf
+  row-more e k m n u q p r w v =
+      let c = h .contents in
+      let fits : length (c .rows) < rowLimit = rw tally-is at (row-room e k q p) in
+      let more : withEntry c e ≡ record { rows = c .rows ++ (e ∷ []); questions = c .questions } = ap (λ (k : Kind). withKind k e c) p in
+      let count : u ≡ oneMore (Row k) (t .tally) = v ∙ ap (λ (k : Kind). oneMore k (t .tally)) p in
+      rw (w, count, more, r, h .stands, padded-more blank rowLimit (c .rows) e fits, highest-more (c .rows) e, length-append (c .rows) (e ∷ []))
+
+  pub question-more : (e : Entry) (k : QuestionKind) (m : Table) (u : Tally) → here ≡ answered e → e .kind ≡ Question k →
+      m ≡ record { rows = t .rows; questions = set (t .questions) (t .tally .questions) e; tally = t .tally; predicates = t .predicates } → u ≡ oneMore
+      (e .kind) (t .tally) →
+      _≡_ {A = Table} (record { rows = m .rows; questions = m .questions; tally = u; predicates = m .predicates }) (tableOf (withEntry (h .contents) e))
+  unfolding tableOf
+  question-more e k m u q p w v =
+      let c = h .contents in
+      let fits : length (c .questions) < questionLimit = rw tally-is at (question-room e k q p) in
+      let more : withEntry c e ≡ record { rows = c .rows; questions = c .questions ++ (e ∷ []) } = ap (λ (k : Kind). withKind k e c) p in
+      let count : u ≡ oneMore (Question k) (t .tally) = v ∙ ap (λ (k : Kind). oneMore k (t .tally)) p in
+      rw (w, count, more, h .stands, padded-more blank questionLimit (c .questions) e fits, length-append (c .questions) (e ∷ []))
 
 -- the end of the bytes
-pub read-none : (f : ℕ) (c : Contents) (at : ℕ) → readOn f c at [] ≡ accepted c
+pub read-none : (f : ℕ) (c : Contents) (at : ℕ) → readOn f c at [] ≡ answered c
 unfolding readOn
 read-none zero c at = refl
 read-none (suc f) c at = refl
 
-pub done : (s : List ℕ) (t : Table) (at : ℕ) (h : At s t at) → length s ≤ at → reading s ≡ accepted (h .contents)
+pub done : (s : List ℕ) (t : Table) (at : ℕ) (h : At s t at) → length s ≤ at → reading s ≡ answered (h .contents)
 done s t at h l = sym (h .left) ∙ rw (drop-of-length-le s l) (read-none (length s - at) (h .contents) at)

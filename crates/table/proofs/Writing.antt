@@ -1,5 +1,4 @@
--- Reading and writing agree: an accepted table's bytes are its entries written one after the other, its entries are sound,
--- and the bytes of sound entries are read as those entries.
+-- Reading and writing agree: an accepted table's bytes are those of its contents, which are whole, and the bytes of whole contents are read as these contents.
 -- Assumes nothing.
 use mathlib.Core.Path.{_≡_, refl, sym, ap, ap₂, _∙_}
 use mathlib.Core.Bool.{Bool, true, false, cond}
@@ -9,17 +8,22 @@ use native.Mathlib.Omega.{arith}
 use lib.ListN.{length, getD, take, drop, length-append, length-drop, take-append-drop}
 use lib.Seq.{drop-at}
 use lib.Dec.{ltb}
+use Rattle.table.specs.declared.refusals.Refusal.{Refusal}
+use Rattle.table.specs.declared.kinds.Kind.{Kind}
+use Rattle.table.specs.declared.kinds.Kind.the-variants.{Row, Question}
 use Rattle.table.specs.declared.entries.Entry.{Entry}
-use Rattle.table.specs.declared.entries.Step.{Step}
-use Rattle.table.specs.declared.entries.Step.the-variants.{Row, Question, Bad}
-use Rattle.table.specs.Kinds.{byteOf}
-use Rattle.table.specs.Entries.{isRow, numbersOf, bytesOf, rowLimit, questionLimit, numberAt, placed, stepBy, stepOf}
-use Rattle.table.specs.Reading.{Contents, none, withRow, withQuestion, Result, accepted, refused, after, readOn, reading, written}
-pub use Rattle.table.specs.Whole.{entries, Tidy, Sound, Each, Whole}
-use Rattle.table.proofs.KindTable.{kind-of-byte}
-use Rattle.table.proofs.OneEntry.{few, length-front, length-bytes, body-named, unless-none}
-use Rattle.table.proofs.Steps.{Allowed, Took, said-of}
-use Rattle.table.proofs.Turns.{enough, room-of, room-for, read-none}
+use Rattle.table.specs.declared.entries.Tally.{Tally}
+use Rattle.table.specs.Said.{Said, answered, refusing, refusal}
+use Rattle.table.specs.Kinds.{formOf, isRow, isQuestion, asRow, asQuestion}
+use Rattle.table.specs.Entries.{tally, numbersOf, sizeOf, bytesOf, rowLimit, questionLimit, numberAt, decoded, judged, stepOf}
+use Rattle.table.specs.Contents.{Contents, none, tallyOf, withKind, withEntry, entries, written, encoded}
+use Rattle.table.specs.Reading.{after, readOn, reading}
+pub use Rattle.table.specs.Whole.{Tidy, Sound, Each, Whole, RowAt, QuestionAt}
+use Rattle.table.proofs.KindTable.{kind-of-byte, is-row, is-question}
+use Rattle.table.proofs.OneEntry.{few, length-front, size}
+use Rattle.table.proofs.Permission.{room-of, room-for, Allowed, permitted-if}
+use Rattle.table.proofs.Steps.{body-whole, Decodes, step-took}
+use Rattle.table.proofs.Turns.{enough, read-none}
 
 -- what holds of each element of a list
 pub each-at : {A : Type 0} (P : ℕ → A → Type 0) (i : ℕ) (l : List A) (d : A) → Each P i l → (j : ℕ) → j < length l → P (i + j) (getD l j d)
@@ -54,15 +58,15 @@ trim : (t : Bool) (a x : ℕ) → a ≡ cond t x 0 → a ≡ cond t a 0
 trim true a x e = refl
 trim false a x e = e
 
-module _ (k : ℕ) (body : List ℕ) (rows questions : ℕ) (e : Entry) (t : Took k body rows questions e) where
-  took-bytes : bytesOf e ++ drop (numbersOf e) body ≡ k ∷ body
+module _ (k : ℕ) (body : List ℕ) (e : Entry) (t : Decodes k body e) where
+  decoded-bytes : bytesOf e ++ drop (sizeOf e) (k ∷ body) ≡ k ∷ body
   unfolding bytesOf
-  took-bytes =
-      rw (t .byte, front-of (numbersOf e) (e .a) (e .b) body (few (e .kind)) (t .whole) (t .first) (t .second))
+  decoded-bytes =
+      rw (size e, t .byte, front-of (numbersOf e) (e .a) (e .b) body (few (e .kind)) (t .whole) (t .first) (t .second))
       (ap (λ (l : List ℕ). k ∷ l) (take-append-drop (numbersOf e) body))
 
-  took-tidy : Tidy e
-  took-tidy = record {
+  decoded-tidy : Tidy e
+  decoded-tidy = record {
     first = trim (ltb 0 (numbersOf e)) (e .a) (getD body 0 0) (t .first);
     second = trim (ltb 1 (numbersOf e)) (e .b) (getD body 1 0) (t .second);
   }
@@ -75,18 +79,17 @@ number-front (suc zero) a b s h = (refl, refl)
 number-front (suc (suc zero)) a b s h = (refl, refl)
 number-front (suc (suc (suc n))) a b s h = absurd (omega arith)
 
-pub own-step : (e : Entry) (s : List ℕ) (rows questions : ℕ) → Allowed rows questions e → Tidy e →
-    stepOf (byteOf (e .kind)) (take (numbersOf e) (e .a ∷ e .b ∷ []) ++ s) rows questions ≡ placed e
-unfolding stepOf stepBy
-own-step e s rows questions h t =
+pub own-step : (e : Entry) (s : List ℕ) (before : Tally) → Allowed before e → Tidy e →
+    stepOf (formOf (e .kind) .byte) (take (numbersOf e) (e .a ∷ e .b ∷ []) ++ s) before ≡ answered e
+unfolding stepOf decoded judged
+own-step e s before h t =
     let body = take (numbersOf e) (e .a ∷ e .b ∷ []) ++ s in
     let n = number-front (numbersOf e) (e .a) (e .b) s (few (e .kind)) in
     let p : numberAt (numbersOf e) 0 body ≡ e .a = n .0 ∙ sym (t .first) in
     let q : numberAt (numbersOf e) 1 body ≡ e .b = n .1 ∙ sym (t .second) in
     let w : numbersOf e ≤ length body =
     rw (length-append (take (numbersOf e) (e .a ∷ e .b ∷ [])) s) (omega (arith, length-front (numbersOf e) (e .a) (e .b) (few (e .kind)))) in
-    rw (kind-of-byte (e .kind))
-    (unless-none _ _ (h .room) ∙ body-named (e .kind) body rows questions w (rw (p, q) (h .names)) ∙ rw (p, q))
+    rw (kind-of-byte (e .kind), body-whole (e .kind) body w, p, q) (permitted-if e before h)
 
 -- entries written one after the other
 pub written-append : (es fs : List Entry) → written (es ++ fs) ≡ written es ++ written fs
@@ -103,92 +106,86 @@ none-of : {A : Type 0} (l : List A) → length l ≡ 0 → l ≡ []
 none-of [] h = refl
 none-of (x ∷ l) h = absurd (omega arith)
 
--- a table with rows, or with questions, behind its own
-abbrev grown : Bool → Contents → List Entry → Contents
-grown true c es = record { rows = c .rows ++ es; questions = c .questions }
-grown false c es = record { rows = c .rows; questions = c .questions ++ es }
-
 -- an entry that is read keeps a table whole, and stands behind the other entries
-module _ (k : ℕ) (body : List ℕ) (c : Contents) (w : Whole c) (e : Entry) (t : Took k body (length (c .rows)) (length (c .questions)) e) where
-  row-none : isRow e ≡ true → c .questions ≡ []
-  row-none r = none-of (c .questions) (room-of true (length (c .rows)) (length (c .questions)) (rw r at (t .allowed .room)) .1)
+module _ (k : ℕ) (body : List ℕ) (c : Contents) (w : Whole c) (e : Entry) (t : Decodes k body e) (a : Allowed (tallyOf c) e) where
+  sound : (part : Kind → Bool) (before : Tally) → part (e .kind) ≡ true → tallyOf c ≡ before → Sound part before e
+  sound part before p q = record { in-part = p; names = rw q at (a .names); tidy = decoded-tidy k body e t }
 
-  grown-whole : (b : Bool) → isRow e ≡ b → Whole (grown b c (e ∷ []))
-  grown-whole true r =
-      let room = room-of true (length (c .rows)) (length (c .questions)) (rw r at (t .allowed .room)) in
-      let empty = row-none r in
+  with-whole : (kind : Kind) → e .kind ≡ kind → Whole (withKind kind e c)
+  with-whole (Row r) p =
+      let room = room-of (Row r) (tallyOf c) (rw p at (a .room)) in
+      let before : tallyOf c ≡ tally (0 + length (c .rows)) 0 =
+      let zero : length (c .rows) ≡ 0 + length (c .rows) = omega arith in ap₂ tally zero (room .1) in
       record {
         rows-fit = omega (arith, length-append (c .rows) (e ∷ []), room .0);
         questions-fit = w .questions-fit;
-        rows-sound = each-more (λ i e. Sound true i 0 e) 0 (c .rows) e (w .rows-sound)
-            (let z : 0 + length (c .rows) ≡ length (c .rows) = omega arith in
-            rw z (record { part = r; names = rw (room .1) at (t .allowed .names); tidy = took-tidy k body (length (c .rows)) (length (c .questions)) e t }));
-        questions-sound = rw empty tt;
+        rows-sound = each-more RowAt 0 (c .rows) e (w .rows-sound) (sound isRow (tally (0 + length (c .rows)) 0) (rw p) before);
+        questions-sound = rw (none-of (c .questions) (room .1)) tt;
       }
-  grown-whole false r =
-      let room = room-of false (length (c .rows)) (length (c .questions)) (rw r at (t .allowed .room)) in
+  with-whole (Question q) p =
+      let room = room-of (Question q) (tallyOf c) (rw p at (a .room)) in
+      let before : tallyOf c ≡ tally (length (c .rows)) (0 + length (c .questions)) =
+      let zero : length (c .questions) ≡ 0 + length (c .questions) = omega arith in ap (tally (length (c .rows))) zero in
       record {
         rows-fit = w .rows-fit;
         questions-fit = omega (arith, length-append (c .questions) (e ∷ []), room);
         rows-sound = w .rows-sound;
-        questions-sound = each-more (λ j e. Sound false (length (c .rows)) j e) 0 (c .questions) e (w .questions-sound)
-            (let z : 0 + length (c .questions) ≡ length (c .questions) = omega arith in
-            rw z (record { part = r; names = t .allowed .names; tidy = took-tidy k body (length (c .rows)) (length (c .questions)) e t }));
+        questions-sound = each-more (QuestionAt (length (c .rows))) 0 (c .questions) e (w .questions-sound)
+            (sound isQuestion (tally (length (c .rows)) (0 + length (c .questions))) (rw p) before);
       }
 
-  grown-entries : (b : Bool) → isRow e ≡ b → entries (grown b c (e ∷ [])) ≡ entries c ++ (e ∷ [])
-  grown-entries true r = rw (row-none r, append-nil (c .rows ++ (e ∷ [])), append-nil (c .rows))
-  grown-entries false r = sym (append-assoc (c .rows) (c .questions) (e ∷ []))
+  with-entries : (kind : Kind) → e .kind ≡ kind → entries (withKind kind e c) ≡ entries c ++ (e ∷ [])
+  with-entries (Row r) p =
+      let empty = none-of (c .questions) (room-of (Row r) (tallyOf c) (rw p at (a .room)) .1) in
+      rw (empty, append-nil (c .rows ++ (e ∷ [])), append-nil (c .rows))
+  with-entries (Question q) p = sym (append-assoc (c .rows) (c .questions) (e ∷ []))
 
   -- what is written so far, with the bytes that are left
-  grown-bytes : (b : Bool) → isRow e ≡ b → written (entries (grown b c (e ∷ []))) ++ drop (numbersOf e) body ≡ written (entries c) ++ (k ∷ body)
-  grown-bytes b r =
-      rw (grown-entries b r, written-more (entries c) e, append-assoc, took-bytes k body (length (c .rows)) (length (c .questions)) e t)
+  with-bytes : encoded (withEntry c e) ++ drop (sizeOf e) (k ∷ body) ≡ encoded c ++ (k ∷ body)
+  with-bytes = rw (with-entries (e .kind) refl, written-more (entries c) e, append-assoc, decoded-bytes k body e t)
 
-  grown-place : (b : Bool) (at : ℕ) → isRow e ≡ b → at ≡ length (written (entries c)) → at + 1 + numbersOf e ≡ length (written (entries (grown b c (e ∷ []))))
-  grown-place b at r p =
-      rw (grown-entries b r, written-more (entries c) e, length-append (written (entries c)) (bytesOf e), length-bytes e) (omega arith)
+  with-place : (at : ℕ) → at ≡ length (encoded c) → at + sizeOf e ≡ length (encoded (withEntry c e))
+  with-place at p = rw (with-entries (e .kind) refl, written-more (entries c) e, length-append (encoded c) (bytesOf e)) (omega arith)
 
--- how reading ends, from a table and the bytes that are left
-pub record Stopped (c : Contents) (s : List ℕ) (n p : ℕ) : Type 0 where
+-- how reading ends, from a table and the bytes that are left: at an entry whose step refuses
+pub record Stopped (c : Contents) (s : List ℕ) (why : Refusal) : Type 0 where
   pub before : Contents
   pub whole : Whole before
   pub kind : ℕ
   pub rest : List ℕ
-  pub bytes : written (entries before) ++ (kind ∷ rest) ≡ written (entries c) ++ s
-  pub place : p ≡ length (written (entries before))
-  pub bad : stepOf kind rest (length (before .rows)) (length (before .questions)) ≡ Bad n
+  pub bytes : encoded before ++ (kind ∷ rest) ≡ encoded c ++ s
+  pub here : Refusal
+  pub bad : stepOf kind rest (tallyOf before) ≡ refusing here
+  pub is : why ≡ refusal (here .number) (length (encoded before) + here .place)
 
-abbrev pub Came : Contents → List ℕ → Result → Type 0
-Came c s (accepted d) = Whole d × (written (entries d) ≡ written (entries c) ++ s)
-Came c s (refused n p) = Stopped c s n p
+abbrev pub Came : Contents → List ℕ → Said Contents → Type 0
+Came c s (answered d) = Whole d × (encoded d ≡ encoded c ++ s)
+Came c s (refusing why) = Stopped c s why
 
-came-from : (c d : Contents) (s u : List ℕ) → written (entries d) ++ u ≡ written (entries c) ++ s → (r : Result) → Came d u r → Came c s r
-came-from c d s u q (accepted x) h = (h .0, h .1 ∙ q)
-came-from c d s u q (refused n p) h =
-    record { before = h .before; whole = h .whole; kind = h .kind; rest = h .rest; bytes = h .bytes ∙ q; place = h .place; bad = h .bad }
+came-from : (c d : Contents) (s u : List ℕ) → encoded d ++ u ≡ encoded c ++ s → (r : Said Contents) → Came d u r → Came c s r
+came-from c d s u q (answered x) h = (h .0, h .1 ∙ q)
+came-from c d s u q (refusing why) h =
+    record { before = h .before; whole = h .whole; kind = h .kind; rest = h .rest; bytes = h .bytes ∙ q; here = h .here; bad = h .bad; is = h .is }
 
-came : (f : ℕ) (c : Contents) (at : ℕ) (s : List ℕ) → length s ≤ f → at ≡ length (written (entries c)) → Whole c → Came c s (readOn f c at s)
+came : (f : ℕ) (c : Contents) (at : ℕ) (s : List ℕ) → length s ≤ f → at ≡ length (encoded c) → Whole c → Came c s (readOn f c at s)
 unfolding readOn after
-came zero c at [] h p w = (w, sym (append-nil (written (entries c))))
+came zero c at [] h p w = (w, sym (append-nil (encoded c)))
 came zero c at (k ∷ s) h p w = absurd (omega arith)
-came (suc f) c at [] h p w = (w, sym (append-nil (written (entries c))))
+came (suc f) c at [] h p w = (w, sym (append-nil (encoded c)))
 came (suc f) c at (k ∷ s) h p w =
-    go (stepOf k s (length (c .rows)) (length (c .questions))) refl
-    (λ d n q v. came f d (at + 1 + n) (drop n s) (omega (arith, length-drop n s)) q v)
+    go (stepOf k s (tallyOf c)) refl
+    (λ d e q v. came f d (at + sizeOf e) (drop (sizeOf e) (k ∷ s)) (omega (arith, size e, length-drop (sizeOf e) (k ∷ s))) q v)
   where
-    go : (t : Step) → stepOf k s (length (c .rows)) (length (c .questions)) ≡ t →
-        ((d : Contents) (n : ℕ) → at + 1 + n ≡ length (written (entries d)) → Whole d → Came d (drop n s) (readOn f d (at + 1 + n) (drop n s))) →
-        Came c (k ∷ s) (after t c at (λ n d. readOn f d (at + 1 + n) (drop n s)))
-    go (Row e) q on =
-        let t = said-of k s (length (c .rows)) (length (c .questions)) (Row e) q in
-        came-from c (withRow c e) (k ∷ s) (drop (numbersOf e) s) (grown-bytes k s c w e (t .0) true (t .1)) (readOn f (withRow c e) (at + 1 + numbersOf e) (drop (numbersOf e) s))
-        (on (withRow c e) (numbersOf e) (grown-place k s c w e (t .0) true at (t .1) p) (grown-whole k s c w e (t .0) true (t .1)))
-    go (Question e) q on =
-        let t = said-of k s (length (c .rows)) (length (c .questions)) (Question e) q in
-        came-from c (withQuestion c e) (k ∷ s) (drop (numbersOf e) s) (grown-bytes k s c w e (t .0) false (t .1)) (readOn f (withQuestion c e) (at + 1 + numbersOf e) (drop (numbersOf e) s))
-        (on (withQuestion c e) (numbersOf e) (grown-place k s c w e (t .0) false at (t .1) p) (grown-whole k s c w e (t .0) false (t .1)))
-    go (Bad n) q on = record { before = c; whole = w; kind = k; rest = s; bytes = refl; place = p; bad = q }
+    go : (x : Said Entry) → stepOf k s (tallyOf c) ≡ x →
+        ((d : Contents) (e : Entry) → at + sizeOf e ≡ length (encoded d) → Whole d → Came d (drop (sizeOf e) (k ∷ s))
+        (readOn f d (at + sizeOf e) (drop (sizeOf e) (k ∷ s)))) →
+        Came c (k ∷ s) (after x c at (λ size d. readOn f d (at + size) (drop size (k ∷ s))))
+    go (answered e) q on =
+        let t = step-took k s (tallyOf c) e q in
+        came-from c (withEntry c e) (k ∷ s) (drop (sizeOf e) (k ∷ s)) (with-bytes k s c w e (t .0) (t .1))
+        (readOn f (withEntry c e) (at + sizeOf e) (drop (sizeOf e) (k ∷ s)))
+        (on (withEntry c e) e (with-place k s c w e (t .0) (t .1) at p) (with-whole k s c w e (t .0) (t .1) (e .kind) refl))
+    go (refusing why) q on = record { before = c; whole = w; kind = k; rest = s; bytes = refl; here = why; bad = q; is = rw p }
 
 -- the empty table is whole
 none-whole : Whole none
@@ -199,82 +196,91 @@ unfolding reading written
 read-came s = came (length s) none 0 s (omega arith) refl none-whole
 
 -- what an accepted table is, and where a refused one stopped
-pub of-accepted : (s : List ℕ) (c : Contents) → reading s ≡ accepted c → Whole c × (written (entries c) ≡ s)
+pub of-accepted : (s : List ℕ) (c : Contents) → reading s ≡ answered c → Whole c × (encoded c ≡ s)
 unfolding written
 of-accepted s c q = rw q at (read-came s)
 
-pub of-refused : (s : List ℕ) (n p : ℕ) → reading s ≡ refused n p → Stopped none s n p
-of-refused s n p q = rw q at (read-came s)
+pub of-refused : (s : List ℕ) (why : Refusal) → reading s ≡ refusing why → Stopped none s why
+of-refused s why q = rw q at (read-came s)
 
--- entries that a table takes one after the other, all rows or all questions
-abbrev Runs : Bool → Contents → List Entry → Type 0
-Runs b c [] = Unit
-Runs b c (e ∷ es) = (isRow e ≡ b) × Allowed (length (c .rows)) (length (c .questions)) e × Tidy e × Runs b (grown b c (e ∷ [])) es
+-- a table with rows more, and with questions more
+abbrev moreRows : Contents → List Entry → Contents
+moreRows c es = record { rows = c .rows ++ es; questions = c .questions }
 
-grown-nil : (b : Bool) (c : Contents) → grown b c [] ≡ c
-grown-nil true c = rw (append-nil (c .rows))
-grown-nil false c = rw (append-nil (c .questions))
+abbrev moreQuestions : Contents → List Entry → Contents
+moreQuestions c es = record { rows = c .rows; questions = c .questions ++ es }
 
-grown-cons : (b : Bool) (c : Contents) (e : Entry) (es : List Entry) → grown b (grown b c (e ∷ [])) es ≡ grown b c (e ∷ es)
-grown-cons true c e es = rw (append-assoc (c .rows) (e ∷ []) es)
-grown-cons false c e es = rw (append-assoc (c .questions) (e ∷ []) es)
+-- entries that a table takes one after the other, all into one part
+abbrev Runs : (Contents → List Entry → Contents) → Contents → List Entry → Type 0
+Runs more c [] = more c [] ≡ c
+Runs more c (e ∷ es) =
+    (withEntry c e ≡ more c (e ∷ [])) × Allowed (tallyOf c) e × Tidy e × (more (more c (e ∷ [])) es ≡ more c (e ∷ es)) × Runs more (more c (e ∷ [])) es
 
 -- reading an entry's own bytes
-after-placed : (b : Bool) (c : Contents) (e : Entry) (at : ℕ) (f : ℕ → Contents → Result) → isRow e ≡ b → after (placed e) c at f ≡ f (numbersOf e) (grown b c (e ∷ []))
-unfolding after
-after-placed true c e at f r = rw r
-after-placed false c e at f r = rw r
-
-own-read : (b : Bool) (c : Contents) (e : Entry) (s : List ℕ) (f at : ℕ) → isRow e ≡ b → Allowed (length (c .rows)) (length (c .questions)) e → Tidy e →
-    length (bytesOf e ++ s) ≤ f → readOn f c at (bytesOf e ++ s) ≡ readOn (length s) (grown b c (e ∷ [])) (at + length (bytesOf e)) s
-unfolding readOn bytesOf
-own-read b c e s zero at r h t l = absurd (omega arith)
-own-read b c e s (suc f) at r h t l =
-    let n = length-front (numbersOf e) (e .a) (e .b) (few (e .kind)) in
+own-read : (c : Contents) (e : Entry) (s : List ℕ) (f at : ℕ) → Allowed (tallyOf c) e → Tidy e → length (bytesOf e ++ s) ≤ f →
+    readOn f c at (bytesOf e ++ s) ≡ readOn (length s) (withEntry c e) (at + sizeOf e) s
+unfolding readOn after bytesOf
+own-read c e s zero at h t l = absurd (omega arith)
+own-read c e s (suc f) at h t l =
     let body = take (numbersOf e) (e .a ∷ e .b ∷ []) in
-    let p : at + 1 + numbersOf e ≡ at + suc (length body) = omega (arith, n) in
-    rw (own-step e s (length (c .rows)) (length (c .questions)) h t, after-placed b c e at (λ n d. readOn f d (at + 1 + n) (drop n (body ++ s))) r, drop-at body s (numbersOf e) n, p)
-    (enough f (length s) (grown b c (e ∷ [])) (at + suc (length body)) s (omega (arith, length-append body s)) (omega arith))
+    rw (own-step e s (tallyOf c) h t, drop-at body s (length body) refl)
+    (enough f (length s) (withEntry c e) (at + suc (length body)) s (omega (arith, length-append body s)) (omega arith))
 
-run : (b : Bool) (es : List Entry) (c : Contents) (s : List ℕ) (f at : ℕ) → Runs b c es → length (written es ++ s) ≤ f →
-    readOn f c at (written es ++ s) ≡ readOn (length s) (grown b c es) (at + length (written es)) s
+run : (more : Contents → List Entry → Contents) (es : List Entry) (c : Contents) (s : List ℕ) (f at : ℕ) → Runs more c es → length (written es ++ s) ≤ f →
+    readOn f c at (written es ++ s) ≡ readOn (length s) (more c es) (at + length (written es)) s
 unfolding written
-run b [] c s f at h l =
+run more [] c s f at h l =
     let z : at + 0 ≡ at = omega arith in
-    rw (grown-nil b c, z) (enough f (length s) c at s l (omega arith))
-run b (e ∷ es) c s f at h l =
+    rw (h, z) (enough f (length s) c at s l (omega arith))
+run more (e ∷ es) c s f at h l =
     let q : length (bytesOf e ++ (written es ++ s)) ≤ f = rw append-assoc at l in
-    let p : at + length (bytesOf e) + length (written es) ≡ at + length (bytesOf e ++ written es) = omega (arith, length-append (bytesOf e) (written es)) in
-    rw (append-assoc (bytesOf e) (written es) s)
-    (own-read b c e (written es ++ s) f at (h .0) (h .1) (h .2) q
-    ∙ run b es (grown b c (e ∷ [])) s (length (written es ++ s)) (at + length (bytesOf e)) (h .3) (omega arith)
-    ∙ rw (grown-cons b c e es, p))
+    let p : at + sizeOf e + length (written es) ≡ at + length (bytesOf e ++ written es) = omega (arith, length-append (bytesOf e) (written es)) in
+    let next = run more es (more c (e ∷ [])) s (length (written es ++ s)) (at + sizeOf e) (h .4) (omega arith) in
+    rw (append-assoc (bytesOf e) (written es) s, own-read c e (written es ++ s) f at (h .1) (h .2) q, h .0) (rw (h .3, p) at next)
 
 -- a whole table's rows, then its questions, are taken
-rows-run : (es pre : List Entry) → Each (λ i e. Sound true i 0 e) (length pre) es → length pre + length es ≤ rowLimit →
-    Runs true (record { rows = pre; questions = [] }) es
-rows-run [] pre h l = tt
+module _ (c : Contents) (e : Entry) where
+  row-taken : isRow (e .kind) ≡ true → withEntry c e ≡ moreRows c (e ∷ [])
+  row-taken h = ap (λ (k : Kind). withKind k e c) (is-row (e .kind) h)
+
+  question-taken : isQuestion (e .kind) ≡ true → withEntry c e ≡ moreQuestions c (e ∷ [])
+  question-taken h = ap (λ (k : Kind). withKind k e c) (is-question (e .kind) h)
+
+rows-run : (es pre : List Entry) → Each RowAt (length pre) es → length pre + length es ≤ rowLimit →
+    Runs moreRows (record { rows = pre; questions = [] }) es
+rows-run [] pre h l = rw (append-nil pre)
 rows-run (e ∷ es) pre h l =
-    let q : length (pre ++ (e ∷ [])) ≡ suc (length pre) = length-append pre (e ∷ []) ∙ omega arith in (
-      h .0 .part,
-      record { room = rw (h .0 .part) (room-for true (length pre) 0 (omega arith, refl)); names = h .0 .names },
-      h .0 .tidy,
+    let q : length (pre ++ (e ∷ [])) ≡ suc (length pre) = length-append pre (e ∷ []) ∙ omega arith in
+    let sound = h .0 in (
+      row-taken (record { rows = pre; questions = [] }) e (sound .in-part),
+      record {
+        room = rw (is-row (e .kind) (sound .in-part)) (room-for (Row (asRow (e .kind))) (tally (length pre) 0) (omega arith, refl));
+        names =
+            sound .names;
+      },
+      sound .tidy,
+      rw (append-assoc pre (e ∷ []) es),
       rows-run es (pre ++ (e ∷ [])) (rw q (h .1)) (rw q (omega arith)),
     )
 
-questions-run : (es rows pre : List Entry) → Each (λ j e. Sound false (length rows) j e) (length pre) es → length pre + length es ≤ questionLimit →
-    Runs false (record { rows = rows; questions = pre }) es
-questions-run [] rows pre h l = tt
+questions-run : (es rows pre : List Entry) → Each (QuestionAt (length rows)) (length pre) es → length pre + length es ≤ questionLimit →
+    Runs moreQuestions (record { rows = rows; questions = pre }) es
+questions-run [] rows pre h l = rw (append-nil pre)
 questions-run (e ∷ es) rows pre h l =
-    let q : length (pre ++ (e ∷ [])) ≡ suc (length pre) = length-append pre (e ∷ []) ∙ omega arith in (
-      h .0 .part,
-      record { room = rw (h .0 .part) (room-for false (length rows) (length pre) (omega arith)); names = h .0 .names },
-      h .0 .tidy,
+    let q : length (pre ++ (e ∷ [])) ≡ suc (length pre) = length-append pre (e ∷ []) ∙ omega arith in
+    let sound = h .0 in (
+      question-taken (record { rows = rows; questions = pre }) e (sound .in-part),
+      record {
+        room = rw (is-question (e .kind) (sound .in-part)) (room-for (Question (asQuestion (e .kind))) (tally (length rows) (length pre)) (omega arith));
+        names = sound .names;
+      },
+      sound .tidy,
+      rw (append-assoc pre (e ∷ []) es),
       questions-run es rows (pre ++ (e ∷ [])) (rw q (h .1)) (rw q (omega arith)),
     )
 
 -- reading a whole table's bytes comes to that table, whatever stands behind them
-pub read-past : (c : Contents) (s : List ℕ) → Whole c → reading (written (entries c) ++ s) ≡ readOn (length s) c (length (written (entries c))) s
+pub read-past : (c : Contents) (s : List ℕ) → Whole c → reading (encoded c ++ s) ≡ readOn (length s) c (length (encoded c)) s
 unfolding reading
 read-past c s w =
     let rows = written (c .rows) in
@@ -282,12 +288,12 @@ read-past c s w =
     let p : length rows + length questions ≡ length (rows ++ questions) = sym (length-append rows questions) in
     let z : 0 + length rows ≡ length rows = omega arith in
     rw (written-append (c .rows) (c .questions), append-assoc rows questions s)
-    (run true (c .rows) none (questions ++ s) (length (rows ++ (questions ++ s))) 0 (rows-run (c .rows) [] (w .rows-sound) (omega (arith, w .rows-fit))) (omega arith)
-    ∙ run false (c .questions) (record { rows = c .rows; questions = [] }) s (length (questions ++ s)) (0 + length rows)
+    (run moreRows (c .rows) none (questions ++ s) (length (rows ++ (questions ++ s))) 0 (rows-run (c .rows) [] (w .rows-sound) (omega (arith, w .rows-fit)))
+    (omega arith)
+    ∙ run moreQuestions (c .questions) (record { rows = c .rows; questions = [] }) s (length (questions ++ s)) (0 + length rows)
     (questions-run (c .questions) (c .rows) [] (w .questions-sound) (omega (arith, w .questions-fit))) (omega arith)
     ∙ rw (z, p))
 
 -- a whole table is accepted
-pub whole-accepted : (c : Contents) → Whole c → reading (written (entries c)) ≡ accepted c
-whole-accepted c w =
-    ap reading (sym (append-nil (written (entries c)))) ∙ read-past c [] w ∙ read-none 0 c (length (written (entries c)))
+pub whole-accepted : (c : Contents) → Whole c → reading (encoded c) ≡ answered c
+whole-accepted c w = ap reading (sym (append-nil (encoded c))) ∙ read-past c [] w ∙ read-none 0 c (length (encoded c))

@@ -1,21 +1,27 @@
--- One entry: its bytes, and what the bytes from a kind byte on announce in a table with so many rows and questions before it
+-- One entry: its bytes, what bytes are decoded to, and whether an entry may stand in a table behind so many rows and questions
 -- (01, "The table, byte by byte" and "When we say no").
-use Prim.Native.Nat.{ℕ, zero, suc, _+_}
-use mathlib.Core.Bool.{Bool, true, false, cond, _&&_}
+use Prim.Native.Nat.{ℕ, _+_}
+use mathlib.Core.Bool.{Bool, true, cond, _&&_}
 use mathlib.Core.List.{List, [], _∷_, _++_}
 use lib.ListN.{length, getD, take, drop}
 use lib.Dec.{ltb, leb}
 use Rattle.belnap.specs.declared.Decision.the-variants.{U}
+use Rattle.table.specs.declared.kinds.RowKind.the-variants.{Always}
 use Rattle.table.specs.declared.kinds.Kind.{Kind}
-use Rattle.table.specs.declared.kinds.Kind.the-variants.{Always}
+use Rattle.table.specs.declared.kinds.Kind.the-variants.{Row, Question}
 use Rattle.table.specs.declared.kinds.Announced.{Announced}
 use Rattle.table.specs.declared.kinds.Announced.the-variants.{Listed, Unlisted}
 use Rattle.table.specs.declared.kinds.Names.{Names}
 use Rattle.table.specs.declared.kinds.Names.the-variants.{Nothing, Predicates, Rows, Questions}
 use Rattle.table.specs.declared.entries.Entry.{Entry}
+use Rattle.table.specs.declared.entries.Tally.{Tally}
+use Rattle.table.specs.declared.entries.Decoded.{Decoded}
+use Rattle.table.specs.declared.entries.Decoded.the-variants.{Unknown, Cut, Full}
 use Rattle.table.specs.declared.entries.Step.{Step}
-use Rattle.table.specs.declared.entries.Step.the-variants.{Row, Question, Bad}
-use Rattle.table.specs.Kinds.{byteOf, kindOf, formOf}
+use Rattle.table.specs.declared.entries.Step.the-variants.{Took, Bad}
+use Rattle.table.specs.Refusals.{unlisted, cutShort, predicateTooHigh, notToBeNamed, rowAfterQuestion, tooManyRows, tooManyQuestions}
+use Rattle.table.specs.Said.{Said, answered, refusing, refusal, unless}
+use Rattle.table.specs.Kinds.{kindOf, formOf}
 
 -- "Limits: predicates 0 to 23; 256 rows; 64 questions"
 abbrev pub predicateLimit : ℕ
@@ -27,20 +33,35 @@ rowLimit = 256
 abbrev pub questionLimit : ℕ
 questionLimit = 64
 
--- whether an entry is a row, and how many numbers it has
-abbrev pub isRow : Entry → Bool
-isRow e = formOf (e .kind) .row
+-- "Every number in a body is one byte."
+abbrev pub numberLimit : ℕ
+numberLimit = 256
 
+-- how many numbers an entry has, and what they name
 abbrev pub numbersOf : Entry → ℕ
 numbersOf e = formOf (e .kind) .numbers
 
+abbrev pub namesOf : Entry → Names
+namesOf e = formOf (e .kind) .names
+
 -- "An entry is one byte of kind, then a body whose length the kind fixes."
 unfoldable pub bytesOf : Entry → List ℕ
-bytesOf e = byteOf (e .kind) ∷ take (numbersOf e) (e .a ∷ e .b ∷ [])
+bytesOf e = formOf (e .kind) .byte ∷ take (numbersOf e) (e .a ∷ e .b ∷ [])
+
+-- how many bytes it has, and at most
+abbrev pub sizeOf : Entry → ℕ
+sizeOf e = length (bytesOf e)
+
+abbrev pub sizeLimit : ℕ
+sizeLimit = 3
+
+-- how many bytes of a body belong to an entry of a kind
+abbrev pub bodySize : Kind → ℕ
+bodySize kind = formOf kind .numbers
 
 -- what stands past the end of a list of entries: always u
 abbrev pub blank : Entry
-blank = record { kind = Always U; a = 0; b = 0 }
+blank = record { kind = Row (Always U); a = 0; b = 0 }
 
 -- one more than the predicate that an entry uses; 0 if it uses none
 abbrev pub usedBy : Names → ℕ → ℕ
@@ -50,66 +71,82 @@ usedBy Rows a = 0
 usedBy Questions a = 0
 
 abbrev pub uses : Entry → ℕ
-uses e = usedBy (formOf (e .kind) .names) (e .a)
-
--- 5, a row after a question; 6, a 257th row; 7, a 65th question; 0 where there is room
-unfoldable pub noRoom : Bool → ℕ → ℕ → ℕ
-noRoom true rows questions = cond (ltb 0 questions) 5 (cond (ltb rows rowLimit) 0 6)
-noRoom false rows questions = cond (ltb questions questionLimit) 0 7
-
--- "A row may name only rows with a lower number; 42 and 43 only lower questions; 40 and 41 any row of the table": at a question all rows are read already,
--- since 5 keeps rows before questions
-abbrev pub limit : Names → ℕ → ℕ → ℕ
-limit Nothing rows questions = 0
-limit Predicates rows questions = predicateLimit
-limit Rows rows questions = rows
-limit Questions rows questions = questions
-
--- 3, a predicate above 23; 4, a number that may not be named there
-abbrev pub misnamed : Names → ℕ
-misnamed Nothing = 4
-misnamed Predicates = 3
-misnamed Rows = 4
-misnamed Questions = 4
+uses e = usedBy (namesOf e) (e .a)
 
 -- the number at a place of a body of so many numbers; 0 where there is none
 abbrev pub numberAt : ℕ → ℕ → List ℕ → ℕ
 numberAt numbers i body = cond (ltb i numbers) (getD body i 0) 0
 
+-- what the bytes behind a kind byte are: the body is cut short, or they begin with it
+unfoldable pub bodyOf : Kind → List ℕ → Decoded
+bodyOf kind body =
+    let numbers = formOf kind .numbers in
+    cond (ltb (length body) (bodySize kind)) (Cut kind) (Full (record { kind = kind; a = numberAt numbers 0 body; b = numberAt numbers 1 body }))
+
+abbrev pub decodedBy : Announced → List ℕ → Decoded
+decodedBy Unlisted body = Unknown
+decodedBy (Listed kind) body = bodyOf kind body
+
+-- what a kind byte and the bytes behind it are
+unfoldable pub decoded : ℕ → List ℕ → Decoded
+decoded k body = decodedBy (kindOf k) body
+
+-- so many rows and questions, and with an entry of a kind more
+abbrev pub tally : ℕ → ℕ → Tally
+tally rows questions = record { rows = rows; questions = questions }
+
+abbrev pub oneMore : Kind → Tally → Tally
+oneMore (Row k) before = tally (before .rows + 1) (before .questions)
+oneMore (Question k) before = tally (before .rows) (before .questions + 1)
+
+-- 5, 6 and 7; 0 where there is room for an entry of a kind behind so many rows and questions
+unfoldable pub noRoom : Kind → Tally → ℕ
+noRoom (Row k) before = cond (ltb 0 (before .questions)) rowAfterQuestion (cond (ltb (before .rows) rowLimit) 0 tooManyRows)
+noRoom (Question k) before = cond (ltb (before .questions) questionLimit) 0 tooManyQuestions
+
+-- "A row may name only rows with a lower number; 42 and 43 only lower questions; 40 and 41 any row of the table": at a question all rows are read already,
+-- since 5 keeps rows before questions
+abbrev pub limit : Names → Tally → ℕ
+limit Nothing before = 0
+limit Predicates before = predicateLimit
+limit Rows before = before .rows
+limit Questions before = before .questions
+
 -- each number that is there is below the limit
 abbrev pub namedAt : ℕ → ℕ → ℕ → ℕ → Bool
 namedAt numbers below i x = cond (ltb i numbers) (ltb x below) true
 
-abbrev pub named : ℕ → ℕ → ℕ → ℕ → Bool
-named numbers below a b = namedAt numbers below 0 a && namedAt numbers below 1 b
+abbrev pub named : Entry → Tally → Bool
+named e before = namedAt (numbersOf e) (limit (namesOf e) before) 0 (e .a) && namedAt (numbersOf e) (limit (namesOf e) before) 1 (e .b)
 
--- an entry that was read: a row or a question
-abbrev pub placed : Entry → Step
-placed e = cond (isRow e) (Row e) (Question e)
+-- 3, a predicate above 23; 4, a number that may not be named there
+abbrev pub misnamed : Names → ℕ
+misnamed Nothing = notToBeNamed
+misnamed Predicates = predicateTooHigh
+misnamed Rows = notToBeNamed
+misnamed Questions = notToBeNamed
 
--- 2, the body is cut short; then 3 and 4
-unfoldable pub bodyStep : Kind → List ℕ → ℕ → ℕ → Step
-bodyStep kind body rows questions =
-    let form = formOf kind in
-    let a = numberAt (form .numbers) 0 body in
-    let b = numberAt (form .numbers) 1 body in
-    cond (ltb (length body) (form .numbers)) (Bad 2)
-    (cond (named (form .numbers) (limit (form .names) rows questions) a b) (placed (record { kind = kind; a = a; b = b })) (Bad (misnamed (form .names))))
+unfoldable pub misnaming : Entry → Tally → ℕ
+misnaming e before = cond (named e before) 0 (misnamed (namesOf e))
 
--- a refusal's number, or where it is 0 the step
-abbrev pub unless : ℕ → Step → Step
-unless zero step = step
-unless (suc n) step = Bad (suc n)
+-- whether an entry may stand there: 5, 6 and 7, then 3 and 4
+unfoldable pub permitted : Entry → Tally → Said Entry
+permitted e before = unless (noRoom (e .kind) before) (unless (misnaming e before) (answered e))
 
--- 1, kind not listed; then 5, 6 and 7; then the body's
-unfoldable pub stepBy : Announced → List ℕ → ℕ → ℕ → Step
-stepBy Unlisted body rows questions = Bad 1
-stepBy (Listed kind) body rows questions = unless (noRoom (formOf kind .row) rows questions) (bodyStep kind body rows questions)
+-- 1, kind not listed; 2, the body is cut short, behind 5, 6 and 7. A refusal's place is counted from the kind byte.
+unfoldable pub judged : Decoded → Tally → Said Entry
+judged Unknown before = refusing (refusal unlisted 0)
+judged (Cut kind) before = unless (noRoom kind before) (refusing (refusal cutShort 0))
+judged (Full e) before = permitted e before
 
 -- the entry whose kind byte is k, followed by these bytes
-unfoldable pub stepOf : ℕ → List ℕ → ℕ → ℕ → Step
-stepOf k body rows questions = stepBy (kindOf k) body rows questions
+unfoldable pub stepOf : ℕ → List ℕ → Tally → Said Entry
+stepOf k body before = judged (decoded k body) before
 
--- bytes written over the front of an output, where they fit
-unfoldable pub over : List ℕ → List ℕ → List ℕ
-over bytes out = cond (leb (length bytes) (length out)) (bytes ++ drop (length bytes) out) out
+unfoldable pub shownStep : Said Entry → Step
+shownStep (answered e) = Took e
+shownStep (refusing why) = Bad why
+
+-- bytes written onto the front of an output, where they fit
+unfoldable pub onto : List ℕ → List ℕ → List ℕ
+onto bytes out = cond (leb (length bytes) (length out)) (bytes ++ drop (length bytes) out) out

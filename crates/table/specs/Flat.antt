@@ -4,12 +4,17 @@ use mathlib.Core.List.{List, [], _∷_, _++_}
 use lib.ListN.{getD}
 use Rattle.belnap.specs.declared.Decision.the-variants.{U}
 use Rattle.table.specs.declared.kinds.Kind.{Kind}
-use Rattle.table.specs.declared.kinds.Kind.the-variants.{Always}
+use Rattle.table.specs.declared.kinds.RowKind.the-variants.{Always}
+use Rattle.table.specs.declared.kinds.Kind.the-variants.{Row}
 use Rattle.table.specs.declared.kinds.Announced.{Announced}
 use Rattle.table.specs.declared.kinds.Announced.the-variants.{Listed, Unlisted}
 use Rattle.table.specs.declared.entries.Entry.{Entry}
-use Rattle.table.specs.Kinds.{byteOf, kindOf}
+use Rattle.table.specs.Kinds.{formOf, kindOf}
 use Rattle.table.specs.Entries.{blank}
+
+-- how many numbers an entry has in a run
+abbrev pub perEntry : ℕ
+perEntry = 3
 
 -- the first n entries; blank ones past the end
 unfoldable pub upTo : List Entry → ℕ → List Entry
@@ -19,12 +24,12 @@ upTo es (suc n) = upTo es n ++ (getD es n blank ∷ [])
 -- an entry's kind byte and its two numbers
 unfoldable pub flat : List Entry → List ℕ
 flat [] = []
-flat (e ∷ es) = byteOf (e .kind) ∷ e .a ∷ e .b ∷ flat es
+flat (e ∷ es) = formOf (e .kind) .byte ∷ e .a ∷ e .b ∷ flat es
 
 -- the kind that a byte announces; a byte that announces none reads as always u
 abbrev pub kindOr : Announced → Kind
 kindOr (Listed kind) = kind
-kindOr Unlisted = Always U
+kindOr Unlisted = Row (Always U)
 
 unfoldable pub kindIn : ℕ → Kind
 kindIn k = kindOr (kindOf k)

@@ -1,71 +1,101 @@
 -- The table of kinds (01, "The table, byte by byte").
 use Prim.Native.Nat.{ℕ}
-use mathlib.Core.Bool.{true, false, cond}
-use mathlib.Core.List.{List, [], _∷_}
+use mathlib.Core.Bool.{Bool, true, false, cond}
+use mathlib.Core.List.{List, [], _∷_, _++_, map}
 use lib.Dec.{eqb}
-use Rattle.belnap.specs.declared.Decision.the-variants.{U, D, G, C}
+use Rattle.belnap.specs.declared.Decision.the-variants.{U}
+use Rattle.belnap.specs.declared.operators.OneRow.{OneRow}
 use Rattle.belnap.specs.declared.operators.OneRow.the-variants.{Negation, Conflation, ClosedDefault, OpenDefault}
+use Rattle.belnap.specs.declared.operators.TwoRow.{TwoRow}
 use Rattle.belnap.specs.declared.operators.TwoRow.the-variants.{TruthMeet, TruthJoin, KnowledgeMeet, KnowledgeJoin, Implication, Guard, OverrideU, OverrideD, OverrideG, OverrideC}
+use Rattle.belnap.specs.declared.orders.Order.{Order}
 use Rattle.belnap.specs.declared.orders.Order.the-variants.{Truth, Knowledge}
+use Rattle.belnap.specs.Decisions.{code, everyDecision}
+use Rattle.belnap.specs.Operators.{everyOneRow, everyTwoRow}
+use Rattle.belnap.specs.Orders.{everyOrder}
+use Rattle.table.specs.declared.kinds.RowKind.{RowKind}
+use Rattle.table.specs.declared.kinds.RowKind.the-variants.{Always, DenyIf, GrantIf, One, Two}
+use Rattle.table.specs.declared.kinds.QuestionKind.{QuestionKind}
+use Rattle.table.specs.declared.kinds.QuestionKind.the-variants.{Compare, Not, Both}
 use Rattle.table.specs.declared.kinds.Kind.{Kind}
-use Rattle.table.specs.declared.kinds.Kind.the-variants.{Always, DenyIf, GrantIf, One, Two, Compare, Not, Both}
+use Rattle.table.specs.declared.kinds.Kind.the-variants.{Row, Question}
 use Rattle.table.specs.declared.kinds.Announced.{Announced}
 use Rattle.table.specs.declared.kinds.Announced.the-variants.{Listed, Unlisted}
+use Rattle.table.specs.declared.kinds.Names.{Names}
 use Rattle.table.specs.declared.kinds.Names.the-variants.{Nothing, Predicates, Rows, Questions}
 use Rattle.table.specs.declared.kinds.Form.{Form}
 
--- the byte that announces each kind
-abbrev pub byteOf : Kind → ℕ
-byteOf (Always U) = 0x00
-byteOf (Always D) = 0x01
-byteOf (Always G) = 0x02
-byteOf (Always C) = 0x03
-byteOf DenyIf = 0x10
-byteOf GrantIf = 0x11
-byteOf (One Negation) = 0x20
-byteOf (One Conflation) = 0x21
-byteOf (One ClosedDefault) = 0x22
-byteOf (One OpenDefault) = 0x23
-byteOf (Two TruthMeet) = 0x30
-byteOf (Two TruthJoin) = 0x31
-byteOf (Two KnowledgeMeet) = 0x32
-byteOf (Two KnowledgeJoin) = 0x33
-byteOf (Two Implication) = 0x34
-byteOf (Two Guard) = 0x35
-byteOf (Two OverrideU) = 0x38
-byteOf (Two OverrideD) = 0x39
-byteOf (Two OverrideG) = 0x3A
-byteOf (Two OverrideC) = 0x3B
-byteOf (Compare Truth) = 0x40
-byteOf (Compare Knowledge) = 0x41
-byteOf Not = 0x42
-byteOf Both = 0x43
+-- the bytes of the operators and of the two comparisons
+abbrev pub byteOfOne : OneRow → ℕ
+byteOfOne Negation = 0x20
+byteOfOne Conflation = 0x21
+byteOfOne ClosedDefault = 0x22
+byteOfOne OpenDefault = 0x23
+
+abbrev pub byteOfTwo : TwoRow → ℕ
+byteOfTwo TruthMeet = 0x30
+byteOfTwo TruthJoin = 0x31
+byteOfTwo KnowledgeMeet = 0x32
+byteOfTwo KnowledgeJoin = 0x33
+byteOfTwo Implication = 0x34
+byteOfTwo Guard = 0x35
+byteOfTwo OverrideU = 0x38
+byteOfTwo OverrideD = 0x39
+byteOfTwo OverrideG = 0x3A
+byteOfTwo OverrideC = 0x3B
+
+abbrev pub byteOfOrder : Order → ℕ
+byteOfOrder Truth = 0x40
+byteOfOrder Knowledge = 0x41
+
+-- a line of the table: the byte that announces a kind, how many numbers its body has, and what they name
+abbrev pub formWith : ℕ → ℕ → Names → Form
+formWith byte numbers names = record { byte = byte; numbers = numbers; names = names }
+
+-- the table; the bytes 00 to 03 of "always u, d, g, c" are the decisions' codes
+abbrev pub formOf : Kind → Form
+formOf (Row (Always v)) = formWith (code v) 0 Nothing
+formOf (Row DenyIf) = formWith 0x10 1 Predicates
+formOf (Row GrantIf) = formWith 0x11 1 Predicates
+formOf (Row (One op)) = formWith (byteOfOne op) 1 Rows
+formOf (Row (Two op)) = formWith (byteOfTwo op) 2 Rows
+formOf (Question (Compare o)) = formWith (byteOfOrder o) 2 Rows
+formOf (Question Not) = formWith 0x42 1 Questions
+formOf (Question Both) = formWith 0x43 2 Questions
 
 -- every kind there is
+abbrev pub rowKinds : List RowKind
+rowKinds = map Always everyDecision ++ DenyIf ∷ GrantIf ∷ map One everyOneRow ++ map Two everyTwoRow
+
+abbrev pub questionKinds : List QuestionKind
+questionKinds = map Compare everyOrder ++ Not ∷ Both ∷ []
+
 abbrev pub kinds : List Kind
-kinds =
-    Always U ∷ Always D ∷ Always G ∷ Always C ∷ DenyIf ∷ GrantIf
-    ∷ One Negation ∷ One Conflation ∷ One ClosedDefault ∷ One OpenDefault
-    ∷ Two TruthMeet ∷ Two TruthJoin ∷ Two KnowledgeMeet ∷ Two KnowledgeJoin ∷ Two Implication ∷ Two Guard
-    ∷ Two OverrideU ∷ Two OverrideD ∷ Two OverrideG ∷ Two OverrideC
-    ∷ Compare Truth ∷ Compare Knowledge ∷ Not ∷ Both ∷ []
+kinds = map Row rowKinds ++ map Question questionKinds
 
 -- the kind among these that a byte announces
 abbrev pub among : List Kind → ℕ → Announced
 among [] k = Unlisted
-among (kind ∷ more) k = cond (eqb k (byteOf kind)) (Listed kind) (among more k)
+among (kind ∷ more) k = cond (eqb k (formOf kind .byte)) (Listed kind) (among more k)
 
 -- the kind that a byte announces
 unfoldable pub kindOf : ℕ → Announced
 kindOf k = among kinds k
 
--- each kind's body: whether the entry is a row, how many numbers follow, and what they name
-abbrev pub formOf : Kind → Form
-formOf (Always v) = record { row = true; numbers = 0; names = Nothing }
-formOf DenyIf = record { row = true; numbers = 1; names = Predicates }
-formOf GrantIf = record { row = true; numbers = 1; names = Predicates }
-formOf (One op) = record { row = true; numbers = 1; names = Rows }
-formOf (Two op) = record { row = true; numbers = 2; names = Rows }
-formOf (Compare o) = record { row = false; numbers = 2; names = Rows }
-formOf Not = record { row = false; numbers = 1; names = Questions }
-formOf Both = record { row = false; numbers = 2; names = Questions }
+-- whether a kind is a row's, and whether it is a question's
+abbrev pub isRow : Kind → Bool
+isRow (Row k) = true
+isRow (Question k) = false
+
+abbrev pub isQuestion : Kind → Bool
+isQuestion (Row k) = false
+isQuestion (Question k) = true
+
+-- a question is no row: it reads as always u; a row is no question: it reads as 43, "both", of the questions with its numbers
+abbrev pub asRow : Kind → RowKind
+asRow (Row k) = k
+asRow (Question k) = Always U
+
+abbrev pub asQuestion : Kind → QuestionKind
+asQuestion (Row k) = Both
+asQuestion (Question k) = k

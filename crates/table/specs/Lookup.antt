@@ -1,42 +1,37 @@
 -- One row taken out of a table (01, "Taking one entry, and striking a row").
-use Prim.Native.Nat.{ℕ}
-use mathlib.Core.Bool.{cond}
+use Prim.Native.Nat.{ℕ, suc, _-_}
 use mathlib.Core.List.{List, []}
 use lib.ListN.{length, getD, take, drop}
-use lib.Dec.{ltb}
-use Rattle.table.specs.declared.Outcome.{Outcome}
-use Rattle.table.specs.declared.Outcome.the-variants.{Read, Refused}
+use lib.Dec.{leb}
+use Rattle.table.specs.declared.lookup.Part.{Part}
 use Rattle.table.specs.declared.lookup.Place.{Place}
 use Rattle.table.specs.declared.lookup.Place.the-variants.{At, Missing}
-use Rattle.table.specs.Entries.{blank, bytesOf}
-use Rattle.table.specs.Reading.{Result, accepted, refused, written}
+use Rattle.table.specs.Refusals.{ifMissing}
+use Rattle.table.specs.Said.{Said, answered, refusing, andThen, unless}
+use Rattle.table.specs.Entries.{blank, sizeOf}
+use Rattle.table.specs.Contents.{Contents, encoded}
 
--- a refusal of reading's, passed on
-abbrev pub missingOf : Outcome → Place
-missingOf Read = Missing 0 0
-missingOf (Refused n p) = Missing n p
+-- the table that ends with row r: the row's own bytes are its last
+abbrev pub endingWith : ℕ → Contents → Contents
+endingWith r c = record { rows = take (suc r) (c .rows); questions = [] }
+
+abbrev pub partOf : ℕ → Contents → Part
+partOf r c = let size = sizeOf (getD (c .rows) r blank) in record { start = length (encoded (endingWith r c)) - size; length = size }
 
 -- where row r's own bytes stand, or why they do not: reading's own refusal, then 8 at 0
-unfoldable pub placeOf : Result → ℕ → Place
-placeOf (accepted c) r = cond (ltb r (length (c .rows))) (At (length (written (take r (c .rows)))) (length (bytesOf (getD (c .rows) r blank)))) (Missing 8 0)
-placeOf (refused n p) r = Missing n p
+unfoldable pub placeOf : Said Contents → ℕ → Said Part
+placeOf x r = andThen x (λ c. unless (ifMissing (leb (length (c .rows)) r)) (answered (partOf r c)))
+
+unfoldable pub shownPlace : Said Part → Place
+shownPlace (answered part) = At part
+shownPlace (refusing why) = Missing why
 
 -- where the part at a place starts; 0 where there is none
-abbrev pub startAt : Place → ℕ
-startAt (At start n) = start
-startAt (Missing n p) = 0
-
--- the part of a table at a place; an empty one where there is none
-unfoldable pub partAt : Place → List ℕ → List ℕ
-partAt (At start n) table = take n (drop start table)
-partAt (Missing n p) table = []
+abbrev pub startAt : Said Part → ℕ
+startAt (answered part) = part .start
+startAt (refusing why) = 0
 
 -- "Asking for row r gives back that entry's own bytes …; a refusal gives an empty part"
-unfoldable pub entryBytes : Result → ℕ → List ℕ
-entryBytes (accepted c) r = cond (ltb r (length (c .rows))) (bytesOf (getD (c .rows) r blank)) []
-entryBytes (refused n p) r = []
-
--- "and a companion call on the same table and number gives that refusal's number and place, or says there is none"
-unfoldable pub entryOutcome : Result → ℕ → Outcome
-entryOutcome (accepted c) r = cond (ltb r (length (c .rows))) Read (Refused 8 0)
-entryOutcome (refused n p) r = Refused n p
+unfoldable pub partAt : Said Part → List ℕ → List ℕ
+partAt (answered part) table = take (part .length) (drop (part .start) table)
+partAt (refusing why) table = []

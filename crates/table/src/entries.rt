@@ -1,12 +1,17 @@
-// One entry: what the bytes from a place on announce, and the entry written into the front of a lent output.
+// One entry: what the bytes from a place on are, whether an entry may stand in a table, and the entry written into the front of a lent output.
 use crate::Table;
 use crate::kinds::Announced;
 use crate::kinds::Kind;
 use crate::kinds::Names;
+use crate::refusals;
+use crate::refusals::Refusal;
 ghost use mathlib.Core.Path.{_≡_};
-ghost use Prim.Native.Nat.{_+_, _-_, _<_};
+ghost use Prim.Native.Nat.{_+_, _≤_, _<_};
 ghost use lib.ListN.{length, getD, drop};
-ghost use Rattle.table.specs.Entries.{numbersOf, uses, bytesOf, noRoom, limit, misnamed, numberAt, namedAt, placed, bodyStep, stepBy, stepOf, over};
+ghost use Rattle.table.specs.Entries.{numberLimit, sizeLimit, bodySize, sizeOf, uses, bytesOf, onto};
+ghost use Rattle.table.specs.Said.{refusal};
+ghost use Rattle.table.specs.Renaming.{namesRow};
+ghost use Rattle.table.specs.Entries.{oneMore, noRoom, limit, misnamed, numberAt, namedAt, misnaming, bodyOf, decoded, permitted, judged, stepOf, shownStep};
 
 // A row or a question: its kind, and its numbers; 0 for one that its kind has not.
 pub struct Entry {
@@ -15,36 +20,58 @@ pub struct Entry {
     pub b: u8,
 }
 
-// What stands at a place: a row, a question, or the number of a refusal.
-pub enum Step {
-    Row(Entry),
-    Question(Entry),
-    Bad(u8),
+// So many rows and questions.
+pub struct Tally {
+    pub rows: usize,
+    pub questions: usize,
 }
 
-pub fn wide(x: u8) -> usize
-    ensures { λ r. ⌜ (r ≡ x) × (r < 256) ⌝ }
+// What the bytes from a kind byte on are: of no listed kind, of a kind whose body is cut short, or an entry.
+pub enum Decoded {
+    Unknown,
+    Cut(Kind),
+    Full(Entry),
+}
+
+// What stands at a place: an entry, or a refusal whose place is counted from the kind byte.
+pub enum Step {
+    Took(Entry),
+    Bad(Refusal),
+}
+
+// How many numbers one byte can be.
+pub const NUMBERS: usize = 256;
+
+pub fn index(x: u8) -> usize
+    ensures { λ r. ⌜ (r ≡ x) × (r < numberLimit) ⌝ }
 {
     x as usize
 }
 
-// How many numbers stand behind an entry's kind byte.
-pub fn numbers_of(e: Entry) -> usize
-    ensures { λ r. ⌜ (r ≡ numbersOf e) × (r < 3) ⌝ }
+// How many bytes of a body belong to an entry of a kind: one for each number.
+fn body_size(kind: Kind) -> usize
+    ensures { λ r. ⌜ (r ≡ bodySize kind) × (r < sizeLimit) ⌝ }
 {
-    let kind = e.kind;
     let form = crate::kinds::form_of(kind);
     form.numbers
 }
 
+// How many bytes an entry has.
+pub fn size_of(e: Entry) -> usize
+    ensures { λ r. ⌜ (r ≡ sizeOf e) × (r ≤ sizeLimit) ⌝ }
+{
+    let kind = e.kind;
+    body_size(kind) + 1
+}
+
 // One more than the predicate that an entry uses; 0 if it uses none.
 pub(crate) fn uses_of(e: Entry) -> usize
-    ensures { λ r. ⌜ (r ≡ uses e) × (r < 257) ⌝ }
+    ensures { λ r. ⌜ (r ≡ uses e) × (r ≤ numberLimit) ⌝ }
 {
     let kind = e.kind;
     let form = crate::kinds::form_of(kind);
     let names = form.names;
-    let a = wide(e.a);
+    let a = index(e.a);
     match names {
         Names::Nothing => 0,
         Names::Predicates => a + 1,
@@ -53,29 +80,73 @@ pub(crate) fn uses_of(e: Entry) -> usize
     }
 }
 
-// 5, 6 or 7 where there is no room for an entry, else 0.
-fn no_room(row: bool, rows: usize, questions: usize) -> u8
-    ensures { λ r. ⌜ r ≡ noRoom row rows questions ⌝ }
+// Whether the number at place i of an entry is there and names a row.
+pub fn names_row(e: Entry, i: usize) -> bool
+    ensures { λ r. ⌜ r ≡ namesRow i e ⌝ }
 {
-    if row {
-        if 0 < questions {
-            return 5;
+    let kind = e.kind;
+    let form = crate::kinds::form_of(kind);
+    let names = form.names;
+    let numbers = form.numbers;
+    match names {
+        Names::Nothing => false,
+        Names::Predicates => false,
+        Names::Rows => i < numbers,
+        Names::Questions => false,
+    }
+}
+
+// So many rows and questions with an entry of a kind more, for which there is room.
+pub(crate) fn one_more(kind: Kind, before: Tally) -> Tally
+    requires { ⌜ noRoom kind before ≡ 0 ⌝ }
+    ensures { λ r. ⌜ r ≡ oneMore kind before ⌝ }
+{
+    let mut more = before;
+    match kind {
+        Kind::Row(_) => {
+            more.rows = before.rows + 1;
         }
-        if rows < Table::ROWS { 0 } else { 6 }
-    } else {
-        if questions < Table::QUESTIONS { 0 } else { 7 }
+        Kind::Question(_) => {
+            more.questions = before.questions + 1;
+        }
+    }
+    more
+}
+
+// 5, 6 or 7 where there is no room for an entry of a kind, else 0.
+fn no_room(kind: Kind, before: Tally) -> u8
+    ensures { λ r. ⌜ r ≡ noRoom kind before ⌝ }
+{
+    match kind {
+        Kind::Row(_) => {
+            if 0 < before.questions {
+                return refusals::ROW_AFTER_QUESTION;
+            }
+            if before.rows < Table::ROWS {
+                0
+            } else {
+                refusals::TOO_MANY_ROWS
+            }
+        }
+        Kind::Question(_) => {
+            if before.questions < Table::QUESTIONS {
+                0
+            } else {
+                refusals::TOO_MANY_QUESTIONS
+            }
+        }
     }
 }
 
 // What a number must be below, by what it names.
-fn limit_of(names: Names, rows: usize, questions: usize) -> usize
-    ensures { λ r. ⌜ r ≡ limit names rows questions ⌝ }
+fn limit_of(names: Names, before: Tally) -> usize
+    ensures { λ r. ⌜ r ≡ limit names before ⌝ }
 {
     match names {
         Names::Nothing => 0,
         Names::Predicates => Table::PREDICATES,
-        Names::Rows => rows,
-        Names::Questions => questions,
+        Names::Rows => before.rows,
+        Names::Questions => before.questions,
     }
 }
 
@@ -84,10 +155,33 @@ fn misnamed_of(names: Names) -> u8
     ensures { λ r. ⌜ r ≡ misnamed names ⌝ }
 {
     match names {
-        Names::Nothing => 4,
-        Names::Predicates => 3,
-        Names::Rows => 4,
-        Names::Questions => 4,
+        Names::Nothing => refusals::NOT_TO_BE_NAMED,
+        Names::Predicates => refusals::PREDICATE_TOO_HIGH,
+        Names::Rows => refusals::NOT_TO_BE_NAMED,
+        Names::Questions => refusals::NOT_TO_BE_NAMED,
+    }
+}
+
+// Whether the number at place i is below its limit, or not there.
+fn named_at(numbers: usize, below: usize, i: usize, x: u8) -> bool
+    ensures { λ r. ⌜ r ≡ namedAt numbers below i x ⌝ }
+{
+    if i < numbers { index(x) < below } else { true }
+}
+
+// 3 or 4 where an entry names what it may not, else 0.
+fn misnaming_of(e: Entry, before: Tally) -> u8
+    ensures { λ r. ⌜ r ≡ misnaming e before ⌝ }
+{
+    let kind = e.kind;
+    let form = crate::kinds::form_of(kind);
+    let names = form.names;
+    let numbers = form.numbers;
+    let below = limit_of(names, before);
+    if named_at(numbers, below, 0, e.a) & named_at(numbers, below, 1, e.b) {
+        0
+    } else {
+        misnamed_of(names)
     }
 }
 
@@ -99,89 +193,97 @@ fn number_at(s: &[u8], at: usize, numbers: usize, i: usize) -> u8
     if i < numbers { s[at + 1 + i] } else { 0 }
 }
 
-// Whether the number at place i is below its limit, or not there.
-fn named_at(numbers: usize, below: usize, i: usize, x: u8) -> bool
-    ensures { λ r. ⌜ r ≡ namedAt numbers below i x ⌝ }
-{
-    if i < numbers { wide(x) < below } else { true }
-}
-
-// An entry that was read is a row or a question.
-fn placed_as(e: Entry) -> Step
-    ensures { λ r. ⌜ r ≡ placed e ⌝ }
-{
-    let kind = e.kind;
-    let form = crate::kinds::form_of(kind);
-    if form.row {
-        Step::Row(e)
-    } else {
-        Step::Question(e)
-    }
-}
-
-// The body of an entry whose kind byte stands at a place.
-fn body_at(kind: Kind, s: &[u8], at: usize, rows: usize, questions: usize) -> Step
+// The body of an entry of a listed kind, whose kind byte stands at a place.
+fn body_at(kind: Kind, s: &[u8], at: usize) -> Decoded
     requires { ⌜ at < length (now s) ⌝ }
-    ensures { λ r. ⌜ r ≡ bodyStep kind (drop (at + 1) (now (s .entry))) rows questions ⌝ }
+    ensures { λ r. ⌜ r ≡ bodyOf kind (drop (at + 1) (now (s .entry))) ⌝ }
 {
     let form = crate::kinds::form_of(kind);
     let numbers = form.numbers;
-    let names = form.names;
-    if s.len() - at <= numbers {
-        return Step::Bad(2);
+    if s.len() - at <= body_size(kind) {
+        return Decoded::Cut(kind);
     }
-    let below = limit_of(names, rows, questions);
     let a = number_at(s, at, numbers, 0);
     let b = number_at(s, at, numbers, 1);
-    if named_at(numbers, below, 0, a) & named_at(numbers, below, 1, b) {
-        placed_as(Entry { kind, a, b })
-    } else {
-        Step::Bad(misnamed_of(names))
-    }
+    Decoded::Full(Entry { kind, a, b })
 }
 
-// An entry of a listed kind: its room, then its body.
-fn listed_at(kind: Kind, s: &[u8], at: usize, rows: usize, questions: usize) -> Step
+// What the bytes from a kind byte on are.
+fn decode(s: &[u8], at: usize) -> Decoded
     requires { ⌜ at < length (now s) ⌝ }
-    ensures { λ r. ⌜ r ≡ stepBy (Announced.Listed kind) (drop (at + 1) (now (s .entry))) rows questions ⌝ }
+    ensures { λ r. ⌜ r ≡ decoded (getD (now (s .entry)) at 0) (drop (at + 1) (now (s .entry))) ⌝ }
 {
-    let form = crate::kinds::form_of(kind);
-    let full = no_room(form.row, rows, questions);
-    if full == 0 {
-        body_at(kind, s, at, rows, questions)
-    } else {
-        Step::Bad(full)
-    }
-}
-
-// The entry whose kind byte stands at a place, in a table with so many rows and questions before it.
-pub(crate) fn step_at(s: &[u8], at: usize, rows: usize, questions: usize) -> Step
-    requires { ⌜ at < length (now s) ⌝ }
-    ensures { λ r. ⌜ r ≡ stepOf (getD (now (s .entry)) at 0) (drop (at + 1) (now (s .entry))) rows questions ⌝ }
-{
-    let k = s[at];
-    let announced = crate::kinds::kind_of(k);
+    let announced = crate::kinds::kind_of(s[at]);
     match announced {
-        Announced::Listed(kind) => listed_at(kind, s, at, rows, questions),
-        Announced::Unlisted => Step::Bad(1),
+        Announced::Listed(kind) => body_at(kind, s, at),
+        Announced::Unlisted => Decoded::Unknown,
     }
 }
 
-// An entry's bytes, written over the front of a lent output where they fit; their number comes back either way.
-pub fn put(out: &mut [u8], e: Entry) -> usize
-    ensures { λ r. ⌜ (r ≡ length (bytesOf e)) × (now (out .exit) ≡ over (bytesOf e) (now (out .entry))) ⌝ }
+// A refusal at the kind byte.
+fn bad(number: u8) -> Step
+    ensures { λ r. ⌜ r ≡ Step.Bad (refusal number 0) ⌝ }
 {
-    let numbers = numbers_of(e);
-    if out.len() <= numbers {
-        return numbers + 1;
-    }
+    Step::Bad(Refusal::of(number))
+}
+
+// Whether an entry may stand behind so many rows and questions.
+pub(crate) fn permit(e: Entry, before: Tally) -> Step
+    ensures { λ r. ⌜ r ≡ shownStep (permitted e before) ⌝ }
+{
     let kind = e.kind;
-    out[0] = crate::kinds::byte_of(kind);
+    let full = no_room(kind, before);
+    if full != 0 {
+        return bad(full);
+    }
+    let wrong = misnaming_of(e, before);
+    if wrong != 0 {
+        return bad(wrong);
+    }
+    Step::Took(e)
+}
+
+// An entry whose body is cut short: its room is asked for first.
+fn cut_short(kind: Kind, before: Tally) -> Step
+    ensures { λ r. ⌜ r ≡ shownStep (judged (Decoded.Cut kind) before) ⌝ }
+{
+    let full = no_room(kind, before);
+    if full != 0 {
+        return bad(full);
+    }
+    bad(refusals::CUT_SHORT)
+}
+
+// The entry whose kind byte stands at a place, behind so many rows and questions.
+pub(crate) fn step_at(s: &[u8], at: usize, before: Tally) -> Step
+    requires { ⌜ at < length (now s) ⌝ }
+    ensures { λ r. ⌜ r ≡ shownStep (stepOf (getD (now (s .entry)) at 0) (drop (at + 1) (now (s .entry))) before) ⌝ }
+{
+    let found = decode(s, at);
+    match found {
+        Decoded::Unknown => bad(refusals::UNLISTED),
+        Decoded::Cut(kind) => cut_short(kind, before),
+        Decoded::Full(e) => permit(e, before),
+    }
+}
+
+// An entry's bytes, written onto the front of a lent output where they fit; their number comes back either way.
+pub fn put(out: &mut [u8], e: Entry) -> usize
+    ensures { λ r. ⌜ (r ≡ sizeOf e) × (now (out .exit) ≡ onto (bytesOf e) (now (out .entry))) ⌝ }
+{
+    let kind = e.kind;
+    let form = crate::kinds::form_of(kind);
+    let numbers = form.numbers;
+    let size = body_size(kind);
+    if out.len() <= size {
+        return size + 1;
+    }
+    out[0] = form.byte;
     if 0 < numbers {
         out[1] = e.a;
     }
     if 1 < numbers {
         out[2] = e.b;
     }
-    numbers + 1
+    size + 1
 }

@@ -3,11 +3,20 @@ use crate::Table;
 use crate::kinds;
 use crate::kinds::Announced;
 use crate::kinds::Kind;
+use crate::kinds::RowKind;
 use belnap::Decision;
 ghost use mathlib.Core.Path.{_≡_};
-ghost use Prim.Native.Nat.{_≤_};
+ghost use Prim.Native.Nat.{_*_, _≤_};
+ghost use Rattle.table.specs.Entries.{rowLimit, questionLimit};
 ghost use Rattle.table.specs.Reading.{padded};
-ghost use Rattle.table.specs.Flat.{upTo, flat, kindIn};
+ghost use Rattle.table.specs.Flat.{perEntry, upTo, flat, kindIn};
+
+// How many numbers an entry has in a run, and how many a run of all rows and a run of all questions hold.
+pub const PER_ENTRY: usize = 3;
+
+pub const ROWS: usize = PER_ENTRY * Table::ROWS;
+
+pub const QUESTIONS: usize = PER_ENTRY * Table::QUESTIONS;
 
 // The kind that a byte announces; a byte that announces none reads as always u.
 pub fn kind_in(byte: u8) -> Kind
@@ -16,22 +25,23 @@ pub fn kind_in(byte: u8) -> Kind
     let announced = kinds::kind_of(byte);
     match announced {
         Announced::Listed(kind) => kind,
-        Announced::Unlisted => Kind::Always(Decision::U),
+        Announced::Unlisted => Kind::Row(RowKind::Always(Decision::U)),
     }
 }
 
 // The rows below a number.
-pub fn flat_rows(t: Table, end: usize) -> [u8; 768]
-    requires { ⌜ end ≤ 256 ⌝ }
-    ensures { λ r. ⌜ r ≡ padded 0 768 (flat (upTo (t .rows) end)) ⌝ }
+pub fn flat_rows(t: Table, end: usize) -> [u8; ROWS]
+    requires { ⌜ end ≤ rowLimit ⌝ }
+    ensures { λ r. ⌜ r ≡ padded 0 (perEntry * rowLimit) (flat (upTo (t .rows) end)) ⌝ }
 {
-    let mut run = [0u8; 768];
+    let mut run = [0u8; ROWS];
     let mut i = 0;
     while i < end {
         let e = t.rows[i];
         let kind = e.kind;
-        let at = 3 * i;
-        run[at] = kinds::byte_of(kind);
+        let at = PER_ENTRY * i;
+        let form = kinds::form_of(kind);
+        run[at] = form.byte;
         run[at + 1] = e.a;
         run[at + 2] = e.b;
         i += 1;
@@ -40,17 +50,18 @@ pub fn flat_rows(t: Table, end: usize) -> [u8; 768]
 }
 
 // The questions below a number.
-pub fn flat_questions(t: Table, end: usize) -> [u8; 192]
-    requires { ⌜ end ≤ 64 ⌝ }
-    ensures { λ r. ⌜ r ≡ padded 0 192 (flat (upTo (t .questions) end)) ⌝ }
+pub fn flat_questions(t: Table, end: usize) -> [u8; QUESTIONS]
+    requires { ⌜ end ≤ questionLimit ⌝ }
+    ensures { λ r. ⌜ r ≡ padded 0 (perEntry * questionLimit) (flat (upTo (t .questions) end)) ⌝ }
 {
-    let mut run = [0u8; 192];
+    let mut run = [0u8; QUESTIONS];
     let mut i = 0;
     while i < end {
         let e = t.questions[i];
         let kind = e.kind;
-        let at = 3 * i;
-        run[at] = kinds::byte_of(kind);
+        let at = PER_ENTRY * i;
+        let form = kinds::form_of(kind);
+        run[at] = form.byte;
         run[at + 1] = e.a;
         run[at + 2] = e.b;
         i += 1;

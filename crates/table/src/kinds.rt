@@ -6,17 +6,27 @@ use belnap::operators::TwoRow;
 use belnap::orders::Order;
 ghost use mathlib.Core.Path.{_≡_};
 ghost use Prim.Native.Nat.{_+_, _≤_, _<_};
-ghost use Rattle.table.specs.Kinds.{kindOf, byteOf, formOf};
+ghost use Rattle.table.specs.Kinds.{kindOf, formOf, formWith, byteOfOne, byteOfTwo, byteOfOrder, asRow, asQuestion};
 
-pub enum Kind {
+// The kinds of a row.
+pub enum RowKind {
     Always(Decision),
     DenyIf,
     GrantIf,
     One(OneRow),
     Two(TwoRow),
+}
+
+// The kinds of a question.
+pub enum QuestionKind {
     Compare(Order),
     Not,
     Both,
+}
+
+pub enum Kind {
+    Row(RowKind),
+    Question(QuestionKind),
 }
 
 // A kind byte is in the list, or it is not.
@@ -33,9 +43,9 @@ pub enum Names {
     Questions,
 }
 
-// Whether an entry is a row (or else a question), how many numbers its body has, and what they name.
+// A line of the table of kinds: the byte that announces a kind, how many numbers its body has, and what they name.
 pub struct Form {
-    pub row: bool,
+    pub byte: u8,
     pub numbers: usize,
     pub names: Names,
 }
@@ -49,27 +59,27 @@ pub(crate) fn kind_of(byte: u8) -> Announced
     match family {
         0 => {
             if low < 4 {
-                return Announced::Listed(Kind::Always(belnap::decision_of(low)));
+                return Announced::Listed(Kind::Row(RowKind::Always(belnap::decision_of(low))));
             }
             Announced::Unlisted
         }
         1 => match low {
-            0 => Announced::Listed(Kind::DenyIf),
-            1 => Announced::Listed(Kind::GrantIf),
+            0 => Announced::Listed(Kind::Row(RowKind::DenyIf)),
+            1 => Announced::Listed(Kind::Row(RowKind::GrantIf)),
             _ => Announced::Unlisted,
         },
         2 => {
             if low < 4 {
-                return Announced::Listed(Kind::One(one_of(low)));
+                return Announced::Listed(Kind::Row(RowKind::One(one_of(low))));
             }
             Announced::Unlisted
         }
         3 => two_kind(low),
         4 => match low {
-            0 => Announced::Listed(Kind::Compare(Order::Truth)),
-            1 => Announced::Listed(Kind::Compare(Order::Knowledge)),
-            2 => Announced::Listed(Kind::Not),
-            3 => Announced::Listed(Kind::Both),
+            0 => Announced::Listed(Kind::Question(QuestionKind::Compare(Order::Truth))),
+            1 => Announced::Listed(Kind::Question(QuestionKind::Compare(Order::Knowledge))),
+            2 => Announced::Listed(Kind::Question(QuestionKind::Not)),
+            3 => Announced::Listed(Kind::Question(QuestionKind::Both)),
             _ => Announced::Unlisted,
         },
         _ => Announced::Unlisted,
@@ -79,7 +89,7 @@ pub(crate) fn kind_of(byte: u8) -> Announced
 // The family 20: one row.
 fn one_of(low: u8) -> OneRow
     requires { ⌜ low < 4 ⌝ }
-    ensures { λ r. ⌜ kindOf (0x20 + low) ≡ Announced.Listed (Kind.One r) ⌝ }
+    ensures { λ r. ⌜ kindOf (0x20 + low) ≡ Announced.Listed (Kind.Row (RowKind.One r)) ⌝ }
 {
     match low {
         0 => OneRow::Negation,
@@ -95,20 +105,20 @@ fn two_kind(low: u8) -> Announced
     ensures { λ r. ⌜ r ≡ kindOf (0x30 + low) ⌝ }
 {
     if low < 6 {
-        return Announced::Listed(Kind::Two(two_of(low)));
+        return Announced::Listed(Kind::Row(RowKind::Two(two_of(low))));
     }
     if low < 8 {
         return Announced::Unlisted;
     }
     if low < 12 {
-        return Announced::Listed(Kind::Two(override_of(low)));
+        return Announced::Listed(Kind::Row(RowKind::Two(override_of(low))));
     }
     Announced::Unlisted
 }
 
 fn two_of(low: u8) -> TwoRow
     requires { ⌜ low < 6 ⌝ }
-    ensures { λ r. ⌜ kindOf (0x30 + low) ≡ Announced.Listed (Kind.Two r) ⌝ }
+    ensures { λ r. ⌜ kindOf (0x30 + low) ≡ Announced.Listed (Kind.Row (RowKind.Two r)) ⌝ }
 {
     match low {
         0 => TwoRow::TruthMeet,
@@ -122,7 +132,7 @@ fn two_of(low: u8) -> TwoRow
 
 fn override_of(low: u8) -> TwoRow
     requires { ⌜ (8 ≤ low) × (low < 12) ⌝ }
-    ensures { λ r. ⌜ kindOf (0x30 + low) ≡ Announced.Listed (Kind.Two r) ⌝ }
+    ensures { λ r. ⌜ kindOf (0x30 + low) ≡ Announced.Listed (Kind.Row (RowKind.Two r)) ⌝ }
 {
     match low {
         8 => TwoRow::OverrideU,
@@ -132,26 +142,32 @@ fn override_of(low: u8) -> TwoRow
     }
 }
 
-pub(crate) fn byte_of(kind: Kind) -> u8
-    ensures { λ r. ⌜ r ≡ byteOf kind ⌝ }
+// A line of the table.
+fn line(byte: u8, numbers: usize, names: Names) -> Form
+    ensures { λ r. ⌜ r ≡ formWith byte numbers names ⌝ }
+{
+    Form {
+        byte,
+        numbers,
+        names,
+    }
+}
+
+// The form of a kind of row.
+fn row_form(kind: RowKind) -> Form
+    ensures { λ r. ⌜ r ≡ formOf (Kind.Row kind) ⌝ }
 {
     match kind {
-        Kind::Always(v) => belnap::code_of(v),
-        Kind::DenyIf => 0x10,
-        Kind::GrantIf => 0x11,
-        Kind::One(op) => byte_of_one(op),
-        Kind::Two(op) => byte_of_two(op),
-        Kind::Compare(order) => match order {
-            Order::Truth => 0x40,
-            Order::Knowledge => 0x41,
-        },
-        Kind::Not => 0x42,
-        Kind::Both => 0x43,
+        RowKind::Always(v) => line(belnap::code_of(v), 0, Names::Nothing),
+        RowKind::DenyIf => line(0x10, 1, Names::Predicates),
+        RowKind::GrantIf => line(0x11, 1, Names::Predicates),
+        RowKind::One(op) => line(byte_of_one(op), 1, Names::Rows),
+        RowKind::Two(op) => line(byte_of_two(op), 2, Names::Rows),
     }
 }
 
 fn byte_of_one(op: OneRow) -> u8
-    ensures { λ r. ⌜ r ≡ byteOf (Kind.One op) ⌝ }
+    ensures { λ r. ⌜ r ≡ byteOfOne op ⌝ }
 {
     match op {
         OneRow::Negation => 0x20,
@@ -162,7 +178,7 @@ fn byte_of_one(op: OneRow) -> u8
 }
 
 fn byte_of_two(op: TwoRow) -> u8
-    ensures { λ r. ⌜ r ≡ byteOf (Kind.Two op) ⌝ }
+    ensures { λ r. ⌜ r ≡ byteOfTwo op ⌝ }
 {
     match op {
         TwoRow::TruthMeet => 0x30,
@@ -178,49 +194,51 @@ fn byte_of_two(op: TwoRow) -> u8
     }
 }
 
+fn byte_of_order(order: Order) -> u8
+    ensures { λ r. ⌜ r ≡ byteOfOrder order ⌝ }
+{
+    match order {
+        Order::Truth => 0x40,
+        Order::Knowledge => 0x41,
+    }
+}
+
+// The form of a kind of question.
+fn question_form(kind: QuestionKind) -> Form
+    ensures { λ r. ⌜ r ≡ formOf (Kind.Question kind) ⌝ }
+{
+    match kind {
+        QuestionKind::Compare(order) => line(byte_of_order(order), 2, Names::Rows),
+        QuestionKind::Not => line(0x42, 1, Names::Questions),
+        QuestionKind::Both => line(0x43, 2, Names::Questions),
+    }
+}
+
 pub fn form_of(kind: Kind) -> Form
     ensures { λ r. ⌜ r ≡ formOf kind ⌝ }
 {
     match kind {
-        Kind::Always(_) => Form {
-            row: true,
-            numbers: 0,
-            names: Names::Nothing,
-        },
-        Kind::DenyIf => Form {
-            row: true,
-            numbers: 1,
-            names: Names::Predicates,
-        },
-        Kind::GrantIf => Form {
-            row: true,
-            numbers: 1,
-            names: Names::Predicates,
-        },
-        Kind::One(_) => Form {
-            row: true,
-            numbers: 1,
-            names: Names::Rows,
-        },
-        Kind::Two(_) => Form {
-            row: true,
-            numbers: 2,
-            names: Names::Rows,
-        },
-        Kind::Compare(_) => Form {
-            row: false,
-            numbers: 2,
-            names: Names::Rows,
-        },
-        Kind::Not => Form {
-            row: false,
-            numbers: 1,
-            names: Names::Questions,
-        },
-        Kind::Both => Form {
-            row: false,
-            numbers: 2,
-            names: Names::Questions,
-        },
+        Kind::Row(row) => row_form(row),
+        Kind::Question(question) => question_form(question),
+    }
+}
+
+// A question is no row: it reads as always u.
+pub fn as_row(kind: Kind) -> RowKind
+    ensures { λ r. ⌜ r ≡ asRow kind ⌝ }
+{
+    match kind {
+        Kind::Row(row) => row,
+        Kind::Question(_) => RowKind::Always(Decision::U),
+    }
+}
+
+// A row is no question: it reads as "both".
+pub fn as_question(kind: Kind) -> QuestionKind
+    ensures { λ r. ⌜ r ≡ asQuestion kind ⌝ }
+{
+    match kind {
+        Kind::Row(_) => QuestionKind::Both,
+        Kind::Question(question) => question,
     }
 }

@@ -3,33 +3,40 @@ pub mod entries;
 pub mod flat;
 pub mod kinds;
 pub mod lookup;
+pub mod refusals;
 
 use crate::entries::Entry;
 use crate::entries::Step;
+use crate::entries::Tally;
 use crate::kinds::Kind;
+use crate::kinds::RowKind;
+use crate::refusals::Refusal;
 use belnap::Decision;
 ghost use mathlib.Core.Path.{_≡_};
 ghost use Prim.Native.Nat.{max};
-ghost use Rattle.table.specs.Reading.{none, reading, tableOf, shown, refused as refusedResult};
+ghost use Rattle.table.specs.Said.{refusing};
+ghost use Rattle.table.specs.Contents.{none};
+ghost use Rattle.table.specs.Reading.{reading, tableOf, shown};
 
 // A table just read: its rows and its questions in order, how many there are of each, and 01's n.
 pub struct Table {
     pub rows: [Entry; Table::ROWS],
     pub questions: [Entry; Table::QUESTIONS],
-    pub used: usize,
-    pub asked: usize,
+    pub tally: Tally,
     pub predicates: usize,
 }
 
-// Read, or refused with a number at a place.
+// Read, or refused.
 pub enum Outcome {
     Read,
-    Refused(u8, usize),
+    Refused,
 }
 
+// A table with an enum beside it, and the refusal, which is to be returned unchanged; its number is 0 where there is none.
 pub struct Reading {
     pub table: Table,
     pub outcome: Outcome,
+    pub why: Refusal,
 }
 
 impl Table {
@@ -43,15 +50,17 @@ impl Table {
         ensures { λ r. ⌜ r ≡ tableOf none ⌝ }
     {
         let blank = Entry {
-            kind: Kind::Always(Decision::U),
+            kind: Kind::Row(RowKind::Always(Decision::U)),
             a: 0,
             b: 0,
         };
         Table {
             rows: [blank; Table::ROWS],
             questions: [blank; Table::QUESTIONS],
-            used: 0,
-            asked: 0,
+            tally: Tally {
+                rows: 0,
+                questions: 0,
+            },
             predicates: 0,
         }
     }
@@ -64,12 +73,13 @@ fn larger(x: usize, y: usize) -> usize
 }
 
 // Beside a refusal the table is empty.
-fn refused(number: u8, place: usize) -> Reading
-    ensures { λ r. ⌜ r ≡ shown (refusedResult number place) ⌝ }
+fn refused(why: Refusal) -> Reading
+    ensures { λ r. ⌜ r ≡ shown (refusing why) ⌝ }
 {
     Reading {
         table: Table::empty(),
-        outcome: Outcome::Refused(number, place),
+        outcome: Outcome::Refused,
+        why,
     }
 }
 
@@ -80,28 +90,39 @@ pub fn read(s: &[u8]) -> Reading
     let mut t = Table::empty();
     let mut at = 0;
     while at < s.len() {
-        let used = t.used;
-        let asked = t.asked;
-        let step = entries::step_at(s, at, used, asked);
+        let before = t.tally;
+        let step = entries::step_at(s, at, before);
         match step {
-            Step::Row(e) => {
-                t.rows[used] = e;
-                t.used = used + 1;
-                t.predicates = larger(t.predicates, entries::uses_of(e));
-                at = at + 1 + entries::numbers_of(e);
+            Step::Took(e) => {
+                let kind = e.kind;
+                match kind {
+                    Kind::Row(_) => {
+                        let used = before.rows;
+                        t.rows[used] = e;
+                        t.predicates = larger(t.predicates, entries::uses_of(e));
+                    }
+                    Kind::Question(_) => {
+                        let asked = before.questions;
+                        t.questions[asked] = e;
+                    }
+                }
+                let more = entries::one_more(kind, before);
+                t.tally = more;
+                at = at + entries::size_of(e);
             }
-            Step::Question(e) => {
-                t.questions[asked] = e;
-                t.asked = asked + 1;
-                at = at + 1 + entries::numbers_of(e);
-            }
-            Step::Bad(n) => {
-                return refused(n, at);
+            Step::Bad(why) => {
+                let place = at + why.place;
+                return refused(Refusal {
+                    number: why.number,
+                    place,
+                });
             }
         }
     }
+    let why = Refusal::of(0);
     Reading {
         table: t,
         outcome: Outcome::Read,
+        why,
     }
 }

@@ -35,9 +35,9 @@ fn print_header(rows: u32, questions: u32, predicates: u32) {
 // "N holds after C", "N fails M after C" or "N unfinished after C"
 fn print_verdict(question: u32, v: Verdict) {
     number(question as u64);
-    if v.reply == 1 {
+    if v.reply == pierstride::HOLDS {
         text(b" holds");
-    } else if v.reply == 2 {
+    } else if v.reply == pierstride::FAILS {
         text(b" fails ");
         number(v.request as u64);
     } else {

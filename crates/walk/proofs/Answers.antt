@@ -10,7 +10,7 @@ use native.Mathlib.Nat.{pow-le-pow-right, zero-add, suc-add}
 use Rattle.belnap.specs.Decisions.{alike}
 use Rattle.belnap.proofs.Finite.{never}
 use Rattle.table.specs.declared.entries.Entry.{Entry}
-use Rattle.table.specs.Reading.{predicates}
+use Rattle.table.specs.Contents.{Covers}
 use Rattle.table.proofs.Numbers.{by-order}
 use Rattle.decide.specs.Meaning.{bit}
 use Rattle.walk.specs.declared.questions.Look.{Look}
@@ -75,7 +75,8 @@ neither-alike zero k m o e f p h l = absurd (omega arith)
 neither-alike (suc left) k m o e f p h l =
     go (bit m k) (bit o k) refl refl e f (λ x y g. neither-alike left (k + 1) m o x y p g (omega arith))
   where
-    go : (a b : Bool) → bit m k ≡ a → bit o k ≡ b → cond (alike a b) (beforeFrom left (k + 1) m o) b ≡ false → cond (alike b a) (beforeFrom left (k + 1) o m) a ≡ false →
+    go : (a b : Bool) → bit m k ≡ a → bit o k ≡ b → cond (alike a b) (beforeFrom left (k + 1) m o) b ≡ false →
+        cond (alike b a) (beforeFrom left (k + 1) o m) a ≡ false →
         (beforeFrom left (k + 1) m o ≡ false → beforeFrom left (k + 1) o m ≡ false → k + 1 ≤ p → bit m p ≡ bit o p) → bit m p ≡ bit o p
     go true true x y e f on = by-order p (k + 1) (λ g. let q : p ≡ k = omega arith in rw (q, x, y)) (on e f)
     go false false x y e f on = by-order p (k + 1) (λ g. let q : p ≡ k = omega arith in rw (q, x, y)) (on e f)
@@ -124,7 +125,8 @@ module _ (see : ℕ → ℕ → Look) (true-at : ℕ → Bool) (n : ℕ)
   }
 
   -- an unsettled visit
-  says-both : (left k facts : ℕ) → facts < 2 ^ k → (w v : Found) → Says left (k + 1) facts w → Says left (k + 1) (facts + 2 ^ k) v → Says (suc left) k facts (orElse w v)
+  says-both : (left k facts : ℕ) → facts < 2 ^ k → (w v : Found) → Says left (k + 1) facts w → Says left (k + 1) (facts + 2 ^ k) v →
+      Says (suc left) k facts (orElse w v)
   says-both left k facts h (breaking m c) v x y = record {
     broken = x .broken;
     small = x .small;
@@ -183,15 +185,12 @@ fills k facts o a p e =
     by-order p k (a p) (λ h. never (sym e ∙ bit-above (2 ^ k - 1) k p (let q = power-positive k in omega arith) h))
 
 -- the questions of a table
-module _ (rows questions : List Entry) (j : ℕ) where
+module _ (rows questions : List Entry) (n : ℕ) (covers : Covers n rows) (j : ℕ) where
   abbrev see : ℕ → ℕ → Look
   see = sees rows questions j
 
   abbrev trueAt : ℕ → Bool
   trueAt o = truth rows questions o j
-
-  abbrev n : ℕ
-  n = predicates rows
 
   -- a settled visit sees the truth at every request that agrees with its facts
   right : (b : Bool) (k facts o : ℕ) → see k facts ≡ cond b True False → Agrees k facts o → trueAt o ≡ b
@@ -200,7 +199,7 @@ module _ (rows questions : List Entry) (j : ℕ) where
 
   -- "At k = n every question is settled."
   pub settled-at-n : (facts : ℕ) → see n facts ≡ Open → ⊥
-  settled-at-n facts e = single-settled (trueAt facts) (sym (ap look (known-truth rows questions (2 ^ n - 1) facts j (bit-known n))) ∙ e)
+  settled-at-n facts e = single-settled (trueAt facts) (sym (ap look (known-truth rows questions n covers (2 ^ n - 1) facts j (bit-known n))) ∙ e)
 
   said : Says see trueAt n right settled-at-n n 0 0 (walk rows questions n j)
   said = says see trueAt n right settled-at-n n 0 0 (omega arith) (omega arith)
@@ -214,8 +213,12 @@ module _ (rows questions : List Entry) (j : ℕ) where
   pub breaking-first : (m c : ℕ) → walk rows questions n j ≡ breaking m c →
       (trueAt m ≡ false) × (m < 2 ^ n) × ((more o : ℕ) → comesBefore (n + more) o m ≡ true → trueAt o ≡ true)
   breaking-first m c e =
-      let b = rw e at said in
-      (b .broken, b .small, λ more o h. b .first o (λ p l. absurd (omega arith)) (before-fewer n more 0 o m (λ p l. bit-above m n p (b .small) (omega arith)) h))
+      let b = rw e at said in (
+        b .broken,
+        b .small,
+        λ more o h. b .first o (λ p l. absurd (omega arith))
+            (before-fewer n more 0 o m (λ p l. bit-above m n p (b .small) (omega arith)) h),
+      )
 
   -- "A question holds if it is true at every request": over the n predicates, and so over any number of them
   pub holds-if-true : ((o : ℕ) → o < 2 ^ n → trueAt o ≡ true) → (c : ℕ) × (walk rows questions n j ≡ nothing c)

@@ -7,4 +7,5 @@ pub mod Replies
 pub mod TruthSets
 pub mod Answers
 pub mod Budgets
+pub mod Renaming
 pub mod Unique

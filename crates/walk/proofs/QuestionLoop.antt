@@ -1,15 +1,16 @@
 -- How many rows a question looks at, and that it looks at no others; what a visit sees, from the sets that it filled.
 -- Assumes nothing.
-use mathlib.Core.Path.{_≡_, refl, ap, ap₂, fun-ext, _∙_}
+use mathlib.Core.Path.{_≡_, ap, ap₂, fun-ext, _∙_}
 use mathlib.Core.Bool.{true}
 use mathlib.Core.List.{List, _++_, map}
 use Prim.Native.Nat.{ℕ, _+_, _-_, _^_, _≤_, _<_}
 use native.Mathlib.Omega.{arith}
 use lib.ListN.{getD, drop}
-use Rattle.table.specs.declared.kinds.Kind.{Kind}
-use Rattle.table.specs.declared.kinds.Kind.the-variants.{Always, DenyIf, GrantIf, One, Two, Compare, Not, Both}
+use Rattle.table.specs.declared.kinds.QuestionKind.{QuestionKind}
+use Rattle.table.specs.declared.kinds.QuestionKind.the-variants.{Compare, Not, Both}
 use Rattle.table.specs.declared.entries.Entry.{Entry}
-use Rattle.table.specs.Entries.{blank}
+use Rattle.table.specs.Kinds.{asQuestion}
+use Rattle.table.specs.Entries.{numberLimit, blank}
 use Rattle.table.specs.Reading.{padded}
 use Rattle.table.specs.Flat.{upTo, flat, entriesIn}
 use Rattle.table.proofs.Numbers.{by-order}
@@ -27,39 +28,30 @@ use Rattle.walk.specs.declared.questions.Look.{Look}
 
 -- how many rows a question looks at
 abbrev pub topOf : Entry → ℕ → ℕ → ℕ
-topOf e x y = topBy (e .kind) (e .a) (e .b) x y
+topOf e x y = topBy (asQuestion (e .kind)) (e .a) (e .b) x y
 
-top-small : (k : Kind) (a b x y : ℕ) → a < 256 → b < 256 → x ≤ 256 → y ≤ 256 → topBy k a b x y ≤ 256
+top-small : (k : QuestionKind) (a b x y : ℕ) → a < numberLimit → b < numberLimit → x ≤ numberLimit → y ≤ numberLimit → topBy k a b x y ≤ numberLimit
 top-small (Compare o) a b x y p q r s = omega arith
 top-small Not a b x y p q r s = r
 top-small Both a b x y p q r s = omega arith
-top-small (Always v) a b x y p q r s = omega arith
-top-small DenyIf a b x y p q r s = omega arith
-top-small GrantIf a b x y p q r s = omega arith
-top-small (One op) a b x y p q r s = omega arith
-top-small (Two op) a b x y p q r s = omega arith
 
-pub top-bound : (qs : List Entry) → ((i : ℕ) → (getD qs i blank .a < 256) × (getD qs i blank .b < 256)) → (j : ℕ) → top qs j ≤ 256
+pub top-bound : (qs : List Entry) → ((i : ℕ) → (getD qs i blank .a < numberLimit) × (getD qs i blank .b < numberLimit)) → (j : ℕ) → top qs j ≤ numberLimit
 top-bound qs h =
-    side-by-side (λ x y. x ≤ 256) topOf topOf 0 0 qs (omega arith)
-    (λ i x y u v p q. top-small (getD qs i blank .kind) (getD qs i blank .a) (getD qs i blank .b) x y (h i .0) (h i .1) p q)
+    side-by-side (λ x y. x ≤ numberLimit) topOf topOf 0 0 qs (omega arith)
+    (λ i x y u v p q. top-small (asQuestion (getD qs i blank .kind)) (getD qs i blank .a) (getD qs i blank .b) x y (h i .0) (h i .1) p q)
 
-pub top-there : (questions : List ℕ) (j n : ℕ) (tops : List ℕ) → j < n → tops ≡ padded 0 256 (values topOf 0 (entriesIn questions) n) → getD tops j 0 ≡ top (entriesIn questions) j
+pub top-there : (questions : List ℕ) (j n : ℕ) (tops : List ℕ) → j < n → tops ≡ padded 0 numberLimit (values topOf 0 (entriesIn questions) n) →
+    getD tops j 0 ≡ top (entriesIn questions) j
 top-there questions j n tops h q =
-    ap (λ (l : List ℕ). getD l j 0) q ∙ padded-at 0 256 (values topOf 0 (entriesIn questions) n) j ∙ before-there topOf 0 (entriesIn questions) n j h
+    ap (λ (l : List ℕ). getD l j 0) q ∙ padded-at 0 numberLimit (values topOf 0 (entriesIn questions) n) j ∙ before-there topOf 0 (entriesIn questions) n j h
 
 -- and that it looks at no others
-same-seen : (k : Kind) (a b rows m n : ℕ) (f g : ℕ → Set decisions) (x y u v : Set truths) → ((r : ℕ) → r < rows → f r ≡ g r) → topBy k a b m n ≤ rows →
+same-seen : (k : QuestionKind) (a b rows m n : ℕ) (f g : ℕ → Set decisions) (x y u v : Set truths) → ((r : ℕ) → r < rows → f r ≡ g r) → topBy k a b m n ≤ rows →
     (m ≤ rows → x ≡ u) → (n ≤ rows → y ≡ v) → truthSetBy k (f a) (f b) x y ≡ truthSetBy k (g a) (g b) u v
 unfolding truthSetBy
 same-seen (Compare o) a b rows m n f g x y u v h t p q = ap₂ (imageTwo (atOrBelow o)) (h a (omega arith)) (h b (omega arith))
 same-seen Not a b rows m n f g x y u v h t p q = rw (p t)
 same-seen Both a b rows m n f g x y u v h t p q = rw (p (omega arith), q (omega arith))
-same-seen (Always w) a b rows m n f g x y u v h t p q = refl
-same-seen DenyIf a b rows m n f g x y u v h t p q = refl
-same-seen GrantIf a b rows m n f g x y u v h t p q = refl
-same-seen (One op) a b rows m n f g x y u v h t p q = refl
-same-seen (Two op) a b rows m n f g x y u v h t p q = refl
 
 pub only-top : (qs : List Entry) (rows : ℕ) (f g : ℕ → Set decisions) → ((r : ℕ) → r < rows → f r ≡ g r) → (j : ℕ) → top qs j ≤ rows →
     valueAt (asksSet f) (single true) qs j ≡ valueAt (asksSet g) (single true) qs j
@@ -71,7 +63,7 @@ only-top qs rows f g h = by-rows (λ j. top qs j ≤ rows → valueAt (asksSet f
     λ x l. by-order x j
     (λ k. rw (before-there (asksSet f) z qs j x k, before-there (asksSet g) z qs j x k) (ih x k (rw (before-there topOf 0 qs j x k) at l)))
     (λ k. rw (before-past (asksSet f) z qs j x k, before-past (asksSet g) z qs j x k)) in
-    same-seen (e .kind) (e .a) (e .b) rows _ _ f g _ _ _ _ h t (at (e .a)) (at (e .b)))
+    same-seen (asQuestion (e .kind)) (e .a) (e .b) rows _ _ f g _ _ _ _ h t (at (e .a)) (at (e .b)))
 
 -- what a visit sees, from the sets and the truths that it filled
 pub visit-sees : (rows questions sets₀ sets masks₀ masks : List ℕ) (seen j k known facts : ℕ) → known ≡ 2 ^ k - 1 →
@@ -103,7 +95,8 @@ module _ (rows questions : List Entry) (run asked : List ℕ) (m o seen j : ℕ)
       ap₂ (λ (see : ℕ → ℕ → Look) (left : ℕ). walkFrom see left 0 0) (fun-ext (λ k. fun-ext (λ facts. run-sees k facts))) (omega arith)
 
 -- a walk goes by what stands at each number alone
-pub same-walk : (rows fewer questions asked : List Entry) → ((i : ℕ) → getD rows i blank ≡ getD fewer i blank) → ((i : ℕ) → getD questions i blank ≡ getD asked i blank) →
+pub same-walk : (rows fewer questions asked : List Entry) → ((i : ℕ) → getD rows i blank ≡ getD fewer i blank) →
+    ((i : ℕ) → getD questions i blank ≡ getD asked i blank) →
     (n j : ℕ) → walk rows questions n j ≡ walk fewer asked n j
 same-walk rows fewer questions asked p q n j =
     ap (λ (see : ℕ → ℕ → Look). walkFrom see n 0 0) (fun-ext (λ k. fun-ext (λ facts.

@@ -8,7 +8,8 @@ use table::flat;
 ghost use mathlib.Core.Path.{_≡_};
 ghost use Prim.Native.Nat.{_+_, _-_, _*_, _^_, _≤_, _<_};
 ghost use lib.ListN.{length};
-ghost use Rattle.table.specs.Flat.{entriesIn};
+ghost use Rattle.table.specs.Entries.{predicateLimit, questionLimit};
+ghost use Rattle.table.specs.Flat.{perEntry, entriesIn};
 ghost use Rattle.walk.specs.Questions.{top as topSpec};
 ghost use Rattle.walk.specs.Walk.{sees, walkFrom, walk, replyOf, countOf, plusOf};
 
@@ -30,7 +31,7 @@ fn visit(
     k: u32,
     facts: u32,
 ) -> Look
-    requires { ⌜ (3 * top ≤ length (now rows)) × (3 * question + 2 < length (now questions)) × (top ≤ length (now sets)) × (question < length (now truths)) × (topSpec (entriesIn (now questions)) question ≤ top) × (k ≤ 24) ⌝ }
+    requires { ⌜ (perEntry * top ≤ length (now rows)) × (perEntry * question + 2 < length (now questions)) × (top ≤ length (now sets)) × (question < length (now truths)) × (topSpec (entriesIn (now questions)) question ≤ top) × (k ≤ predicateLimit) ⌝ }
     ensures { λ r. ⌜ r ≡ sees (entriesIn (now (rows .entry))) (entriesIn (now (questions .entry))) question k facts ⌝ }
 {
     let known = (1 << k) - 1;
@@ -41,7 +42,7 @@ fn visit(
 
 // The facts with predicate k yes.
 fn with_yes(facts: u32, k: u32) -> u32
-    requires { ⌜ (facts < 2 ^ k) × (k < 24) ⌝ }
+    requires { ⌜ (facts < 2 ^ k) × (k < predicateLimit) ⌝ }
     ensures { λ r. ⌜ (r ≡ facts + 2 ^ k) × (r < 2 ^ (k + 1)) ⌝ }
 {
     facts + (1 << k)
@@ -72,7 +73,7 @@ fn walk_from(
     facts: u32,
     budget: u32,
 ) -> Reply
-    requires { ⌜ ((3 * top ≤ length (now rows)) × (3 * question + 2 < length (now questions)) × (top ≤ length (now sets)) × (question < length (now truths)) × (topSpec (entriesIn (now questions)) question ≤ top)) × (k ≤ n) × (n ≤ 24) × (facts < 2 ^ k) ⌝ }
+    requires { ⌜ ((perEntry * top ≤ length (now rows)) × (perEntry * question + 2 < length (now questions)) × (top ≤ length (now sets)) × (question < length (now truths)) × (topSpec (entriesIn (now questions)) question ≤ top)) × (k ≤ n) × (n ≤ predicateLimit) × (facts < 2 ^ k) ⌝ }
     ensures { λ r. ⌜ r ≡ replyOf budget (walkFrom (sees (entriesIn (now (rows .entry))) (entriesIn (now (questions .entry))) question) (n - k) k facts) ⌝ }
 {
     if budget == 0 {
@@ -123,7 +124,7 @@ fn walk_from(
 
 // The verdict on a question of a table, within a budget of visits.
 pub fn verdict(t: Table, question: usize, budget: u32) -> Reply
-    requires { ⌜ (question < 64) × (t .predicates ≤ 24) ⌝ }
+    requires { ⌜ (question < questionLimit) × (t .predicates ≤ predicateLimit) ⌝ }
     ensures { λ r. ⌜ r ≡ replyOf budget (walk (t .rows) (t .questions) (t .predicates) question) ⌝ }
 {
     let questions = flat::flat_questions(t, question + 1);

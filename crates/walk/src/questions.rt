@@ -4,13 +4,15 @@ use crate::tables;
 use belnap::orders::Order;
 use table::entries;
 use table::flat;
-use table::kinds::Kind;
+use table::kinds;
+use table::kinds::QuestionKind;
 ghost use mathlib.Core.Bool.{true, not, _&&_};
 ghost use mathlib.Core.Path.{_≡_};
 ghost use mathlib.Core.List.{_++_, map};
 ghost use Prim.Native.Nat.{_+_, _*_, _≤_, _<_, max};
 ghost use lib.ListN.{length, drop};
-ghost use Rattle.table.specs.Flat.{entriesIn};
+ghost use Rattle.table.specs.Entries.{numberLimit};
+ghost use Rattle.table.specs.Flat.{perEntry, entriesIn};
 ghost use Rattle.decide.specs.Rows.{values};
 ghost use Rattle.belnap.specs.Orders.{atOrBelow};
 ghost use Rattle.possible.specs.Sets.{decisions, truths, single, imageOne, imageTwo, mask, ofMask};
@@ -64,32 +66,27 @@ fn both_set(x: u8, y: u8) -> u8
 }
 
 // The set of a question where the rows that it names have the sets s and t, and the questions the sets x and y.
-fn truth_by(kind: Kind, s: u8, t: u8, x: u8, y: u8) -> u8
+fn truth_by(kind: QuestionKind, s: u8, t: u8, x: u8, y: u8) -> u8
     ensures { λ r. ⌜ r ≡ mask truths (truthSetBy kind (ofMask decisions s) (ofMask decisions t) (ofMask truths x) (ofMask truths y)) ⌝ }
 {
     match kind {
-        Kind::Compare(order) => compare_set(order, s, t),
-        Kind::Not => not_set(x),
-        Kind::Both => both_set(x, y),
-        Kind::Always(_) => 1,
-        Kind::DenyIf => 1,
-        Kind::GrantIf => 1,
-        Kind::One(_) => 1,
-        Kind::Two(_) => 1,
+        QuestionKind::Compare(order) => compare_set(order, s, t),
+        QuestionKind::Not => not_set(x),
+        QuestionKind::Both => both_set(x, y),
     }
 }
 
 // The sets of the questions below a number, from a run of questions and the sets of the rows below `top`, into the front of what is lent.
 pub(crate) fn truths_below(questions: &[u8], end: usize, sets: &[u8], top: usize, masks: &mut [u8])
-    requires { ⌜ (3 * end ≤ length (now questions)) × (top ≤ length (now sets)) × (end ≤ length (now masks)) ⌝ }
+    requires { ⌜ (perEntry * end ≤ length (now questions)) × (top ≤ length (now sets)) × (end ≤ length (now masks)) ⌝ }
     ensures { λ r. ⌜ now (masks .exit) ≡
         map (mask truths) (values (asksSet (maskAt (now (sets .entry)) top)) (single true) (entriesIn (now (questions .entry))) end)
         ++ drop end (now (masks .entry)) ⌝ }
 {
     let mut i = 0;
     while i < end {
-        let at = 3 * i;
-        let kind = flat::kind_in(questions[at]);
+        let at = flat::PER_ENTRY * i;
+        let kind = kinds::as_question(flat::kind_in(questions[at]));
         let a = questions[at + 1];
         let b = questions[at + 2];
         let s = possible::earlier(sets, top, a);
@@ -103,18 +100,13 @@ pub(crate) fn truths_below(questions: &[u8], end: usize, sets: &[u8], top: usize
 }
 
 // How many rows a question of this kind and these numbers looks at, where the questions that it names look at x and y.
-fn top_by(kind: Kind, a: u8, b: u8, x: u16, y: u16) -> u16
+fn top_by(kind: QuestionKind, a: u8, b: u8, x: u16, y: u16) -> u16
     ensures { λ r. ⌜ r ≡ topBy kind a b x y ⌝ }
 {
     match kind {
-        Kind::Compare(_) => larger(a as u16, b as u16) + 1,
-        Kind::Not => x,
-        Kind::Both => larger(x, y),
-        Kind::Always(_) => 0,
-        Kind::DenyIf => 0,
-        Kind::GrantIf => 0,
-        Kind::One(_) => 0,
-        Kind::Two(_) => 0,
+        QuestionKind::Compare(_) => larger(a as u16, b as u16) + 1,
+        QuestionKind::Not => x,
+        QuestionKind::Both => larger(x, y),
     }
 }
 
@@ -126,18 +118,18 @@ fn larger(x: u16, y: u16) -> u16
 
 // How many rows a visit of a question looks at: those up to the highest that it reaches.
 pub(crate) fn top_of(questions: &[u8], question: usize) -> usize
-    requires { ⌜ (question < 256) × (3 * question + 2 < length (now questions)) ⌝ }
-    ensures { λ r. ⌜ (r ≡ top (entriesIn (now (questions .entry))) question) × (r ≤ 256) ⌝ }
+    requires { ⌜ (question < numberLimit) × (perEntry * question + 2 < length (now questions)) ⌝ }
+    ensures { λ r. ⌜ (r ≡ top (entriesIn (now (questions .entry))) question) × (r ≤ numberLimit) ⌝ }
 {
-    let mut tops = [0u16; 256];
+    let mut tops = [0u16; entries::NUMBERS];
     let mut i = 0;
     while i <= question {
-        let at = 3 * i;
-        let kind = flat::kind_in(questions[at]);
+        let at = flat::PER_ENTRY * i;
+        let kind = kinds::as_question(flat::kind_in(questions[at]));
         let a = questions[at + 1];
         let b = questions[at + 2];
-        let x = tops[entries::wide(a)];
-        let y = tops[entries::wide(b)];
+        let x = tops[entries::index(a)];
+        let y = tops[entries::index(b)];
         let v = top_by(kind, a, b, x, y);
         tops[i] = v;
         i += 1;

@@ -2,6 +2,7 @@
 use Rattle.decide.proofs.RowByRow.{turn}
 use Rattle.decide.specs.Meaning.{decides}
 use Rattle.decide.specs.Rows.{values}
+use Rattle.table.specs.Entries.{rowLimit}
 use Rattle.table.specs.Reading.{padded}
 use Rattle.belnap.specs.declared.Decision.the-variants.{U}
 use native.Mathlib.Omega.{arith}
@@ -12,7 +13,7 @@ use Rattle.decide.proofs.decide_below.Statement.{statement}
 use Rattle.decide.proofs.decide_below.Tie as tie
 
 abbrev Inv-loop : tie.InvT-loop
-Inv-loop end request t d₀ i₀ d i = (i ≤ end) × (d ≡ padded U 256 (values (decides request) U (t .rows) i))
+Inv-loop end request t d₀ i₀ d i = (i ≤ end) × (d ≡ padded U rowLimit (values (decides request) U (t .rows) i))
 
 abbrev μ-loop : tie.MeasureT-loop
 μ-loop end request t d₀ i₀ d i = end - i
@@ -23,9 +24,16 @@ loop-holds c = (omega arith, refl)
 
 loop-again : tie.Need-loop-again Inv-loop μ-loop
 loop-again c =
-    let at = c .before .before .before .before .before .before .before in
-    let v = rw (c .before .before .before .before .wide .ensures .0, c .before .before .before .wide2 .ensures .0) at (c .decide-by .ensures) in
-    (omega arith, turn (decides (at .before .args .request)) U (at .before .args .t1 .rows) 256 (at .loop .i) (at .loop .d) (c .decide-by .result) (omega arith) (at .loop .inv .1) v)
+    let at = c .before .before .before .before .before .before .before .before in
+    let v = rw (
+      c .before .before .before .before .before .as-row .ensures,
+      c .before .before .before .before .index .ensures .0,
+      c .before .before .before .index2 .ensures .0,
+    ) at (c .decide-by .ensures) in (
+      omega arith,
+      turn (decides (at .before .args .request)) U (at .before .args .t1 .rows) rowLimit (at .loop .i) (at .loop .d) (c .decide-by .result)
+          (omega arith) (at .loop .inv .1) v,
+    )
 
 returns : tie.Need-returns Inv-loop μ-loop
 returns c = let q : c .before .loop .i ≡ c .before .before .args .end = omega arith in rw q at (c .before .loop .inv .1)
@@ -39,6 +47,7 @@ decide-below-spec =
     loop-holds
     (λ c. search needs)
     (λ c. search needs)
+    (λ c κs. search needs)
     (λ c κs. search needs)
     (λ c κs. search needs)
     (λ c. search needs)

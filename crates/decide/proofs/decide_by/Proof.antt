@@ -32,18 +32,6 @@ returns-7 : tie.Need-returns-7
 unfolding decideBy
 returns-7 c = rw (c .before .before .kind3 .given .1) (c .apply-two .ensures)
 
-returns-8 : tie.Need-returns-8
-unfolding decideBy
-returns-8 c = rw (c .enum-told3 .given .1)
-
-returns-9 : tie.Need-returns-9
-unfolding decideBy
-returns-9 c = rw (c .enum-told4 .given .1)
-
-returns-10 : tie.Need-returns-10
-unfolding decideBy
-returns-10 c = rw (c .enum-told5 .given .1)
-
 pub decide-by-spec : {M : Type 1} → statement M
 decide-by-spec =
     tie.close
@@ -57,16 +45,10 @@ decide-by-spec =
     (λ c κs. search needs)
     (λ c. search needs)
     (λ c κs. search needs)
-    (λ c. search needs)
-    (λ c. search needs)
-    (λ c. search needs)
     returns
     returns-2
     returns-3
     returns-4
     returns-5
     returns-6
-    returns-7
-    returns-8
-    returns-9
-    returns-10)
+    returns-7)

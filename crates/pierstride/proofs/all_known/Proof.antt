@@ -1,5 +1,6 @@
 -- That `all_known` (src/lib.rt) keeps its promise.
 use Rattle.pierstride.proofs.KnownMasks.{known-more, known-never}
+use Rattle.table.specs.Entries.{predicateLimit}
 use Rattle.pierstride.specs.Masks.{knownBelow}
 use native.Mathlib.Omega.{arith}
 use Prim.Native.Nat.{_≤_, _-_}
@@ -10,23 +11,31 @@ use Rattle.pierstride.proofs.all_known.Statement.{statement}
 use Rattle.pierstride.proofs.all_known.Tie as tie
 
 abbrev Inv-loop : tie.InvT-loop
-Inv-loop known request i₀ i = (i ≤ 24) × (knownBelow i known request ≡ true)
+Inv-loop known request i₀ i = (i ≤ predicateLimit) × (knownBelow i known request ≡ true)
 
 abbrev μ-loop : tie.MeasureT-loop
-μ-loop known request i₀ i = 24 - i
+μ-loop known request i₀ i = predicateLimit - i
 
 loop-holds : tie.Need-loop-holds Inv-loop μ-loop
 unfolding knownBelow
 loop-holds c = (omega arith, refl)
 
 returns : tie.Need-returns Inv-loop μ-loop
-returns c = sym (known-never (c .before .before .before .before .before .args .known) (c .before .before .before .before .before .args .request) (c .before .before .before .before .loop .i) 24 (rw (c .before .before .bit-of .ensures, c .before .bit-of2 .ensures) at (c .if1 .taken)) (omega arith))
+returns c =
+    sym (known-never (c .before .before .before .before .before .args .known) (c .before .before .before .before .before .args .request)
+    (c .before .before .before .before .loop .i) predicateLimit (rw (c .before .before .bit-of .ensures, c .before .bit-of2 .ensures) at (c .if1 .taken))
+    (omega arith))
 
 loop-again : tie.Need-loop-again Inv-loop μ-loop
-loop-again c = (omega arith, known-more (c .before .before .before .before .before .args .known) (c .before .before .before .before .before .args .request) (c .before .before .before .before .loop .i) (c .before .before .before .before .loop .inv .1) (rw (c .before .before .bit-of .ensures, c .before .bit-of2 .ensures) at (c .if1 .left)))
+loop-again c = (
+  omega arith,
+  known-more (c .before .before .before .before .before .args .known) (c .before .before .before .before .before .args .request)
+      (c .before .before .before .before .loop .i) (c .before .before .before .before .loop .inv .1)
+      (rw (c .before .before .bit-of .ensures, c .before .bit-of2 .ensures) at (c .if1 .left)),
+)
 
 returns-2 : tie.Need-returns-2 Inv-loop μ-loop
-returns-2 c = let q : c .before .loop .i ≡ 24 = omega arith in sym (rw q at (c .before .loop .inv .1))
+returns-2 c = let q : c .before .loop .i ≡ predicateLimit = omega arith in sym (rw q at (c .before .loop .inv .1))
 
 pub all-known-spec : {M : Type 1} → statement M
 all-known-spec =

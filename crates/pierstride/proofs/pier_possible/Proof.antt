@@ -1,48 +1,52 @@
 -- That `pier_possible` (src/lib.rt) keeps its promise.
-use Rattle.pierstride.proofs.Serving.{passed-on, possible-refuses, possible-answers}
+use mathlib.Core.Path.{ap, _∙_}
+use Rattle.table.specs.declared.refusals.Refusal.{Refusal}
+use Rattle.table.specs.Said.{refusing}
+use Rattle.table.proofs.Opening.{Opened, opened, turned}
 use Rattle.pierstride.specs.Services.{remainingOf, saysPossible}
-use Rattle.table.proofs.Opening.{opened, turned}
-use native.Mathlib.Omega.{arith}
-use Prim.Native.Nat.{ℕ}
-use mathlib.Core.Path.{_≡_, _∙_}
+use Rattle.pierstride.proofs.Serving.{passed-on, possible-refuses, possible-answers}
 use borrow.Author.Needs.{needs}
 use Rattle.pierstride.proofs.pier_possible.Statement.{statement}
 use Rattle.pierstride.proofs.pier_possible.Tie as tie
 
+-- once the table was read: the call's start, and what the reading stands for
+abbrev start-at : tie.After-enum-told → tie.Start
+start-at c = c .before .before .before .before
+
+open-at : (c : tie.After-enum-told) → Opened (start-at c .args .table .now) (c .before .before .read .result)
+open-at c = opened (start-at c .args .table .now) (c .before .before .read .result) (c .before .before .read .ensures) (c .enum-told .given .1)
+
 returns : tie.Need-returns
 unfolding saysPossible
 returns c =
-    let start = c .before .before .before .before .before .before .args in
-    let got = c .before .before .before .before .read in
-    let t =
-    turned (start .table .now) (got .result) (got .ensures)
-    (λ q. let z : _≡_ {A = ℕ} 0 1 = rw q at (c .before .before .before .match .keys2) in omega arith) in
-    passed-on remainingOf _ t (c .before .refusal-of .result) (c .no-set .result) (c .before .refusal-of .ensures) (c .no-set .ensures)
+    let told = c .before .before in
+    let got = told .before .before in
+    let s = got .before .before .args .table .now in
+    passed-on remainingOf _ s (got .read .result .why) (c .no-set .result) (turned s (got .read .result) (got .read .ensures) (told .enum-told2 .given .1))
+    (c .no-set .ensures)
 
 returns-2 : tie.Need-returns-2
 returns-2 c =
-    let asked = c .before .before in
+    let asked = c .before .before .before in
     let masks = asked .before in
     let told = masks .before .before .before in
-    let got = told .before .before .read in
-    let start = told .before .before .before .before .args in
-    let o = opened (start .table .now) (got .result) (got .ensures) (told .enum-told .given .1) in
+    let start = start-at told .args in
     let why = asked .asked-wrongly in
     let bad = masks .masks-bad in
-    c .no-set2 .ensures
-    ∙ possible-refuses o (start .row) (start .known) (start .request) (why .result) (bad .result) (bad .ensures) (why .ensures) (c .before .if1 .taken)
+    c .no-set2 .ensures ∙ ap (λ (why : Refusal). remainingOf (refusing why)) (c .before .of .ensures)
+    ∙ possible-refuses (open-at told) (start .row) (start .known) (start .request) (why .result) (bad .result) (bad .ensures) (why .ensures)
+    (c .before .before .if1 .taken)
 
 returns-3 : tie.Need-returns-3
 returns-3 c =
     let asked = c .before .before in
     let masks = asked .before in
     let told = masks .before .before .before in
-    let got = told .before .before .read in
-    let start = told .before .before .before .before .args in
-    let o = opened (start .table .now) (got .result) (got .ensures) (told .enum-told .given .1) in
+    let start = start-at told .args in
     let why = asked .asked-wrongly in
     let bad = masks .masks-bad in
-    possible-answers o (start .row) (start .known) (start .request) (why .result) (bad .result) (bad .ensures) (why .ensures) (c .before .if1 .left)
+    possible-answers (open-at told) (start .row) (start .known) (start .request) (why .result) (bad .result) (bad .ensures) (why .ensures)
+    (c .before .if1 .left)
     (c .possible .result) (c .possible .ensures)
 
 pub pier-possible-spec : {M : Type 1} → statement M
@@ -53,8 +57,8 @@ pier-possible-spec =
     (λ c. search needs)
     (λ c. search needs)
     (λ c κs. search needs)
-    (λ c κs. search needs)
     returns
+    (λ c κs. search needs)
     (λ c κs. search needs)
     (λ c κs. search needs)
     (λ c κs. search needs)

@@ -13,15 +13,16 @@ returns : tie.Need-returns
 returns c =
     let a = c .before .before .before .before .args in
     let l = a .masks .now in
-    let n = c .before .before .wide .ensures .0 in
-    let h : c .before .before .wide .result < length l = omega arith in
-    getD-any l (c .before .before .wide .result) 0 1 h ∙ sym (getD-take (a .i) l (c .before .before .wide .result) 1 (c .before .if1 .taken)) ∙ ap (λ (x : ℕ). getD (take (a .i) l) x 1) n
+    let n = c .before .before .index .ensures .0 in
+    let h : c .before .before .index .result < length l = omega arith in
+    getD-any l (c .before .before .index .result) 0 1 h ∙ sym (getD-take (a .i) l (c .before .before .index .result) 1 (c .before .if1 .taken)) ∙
+    ap (λ (x : ℕ). getD (take (a .i) l) x 1) n
 
 returns-2 : tie.Need-returns-2
 returns-2 c =
     let a = c .before .before .before .args in
     let l = a .masks .now in
-    let h : length (take (a .i) l) ≤ a .n = rw (length-take-le (a .i) l (c .before .before .before .pre), ← c .before .wide .ensures .0) (c .if1 .left) in
+    let h : length (take (a .i) l) ≤ a .n = rw (length-take-le (a .i) l (c .before .before .before .pre), ← c .before .index .ensures .0) (c .if1 .left) in
     sym (List·getD-eq-default (take (a .i) l) 1 h)
 
 pub earlier-spec : {M : Type 1} → statement M

@@ -6,11 +6,23 @@ use Rattle.possible.proofs.fact_set.Tie as tie
 
 returns : tie.Need-returns
 unfolding factSet
-returns c = rw (← c .before .before .before .before .bit-of .ensures, c .before .before .before .if1 .taken, ← c .before .before .bit-of2 .ensures, c .before .if2 .taken) (c .only .ensures)
+returns c =
+    rw (
+      ← c .before .before .before .before .bit-of .ensures,
+      c .before .before .before .if1 .taken,
+      ← c .before .before .bit-of2 .ensures,
+      c .before .if2 .taken,
+    ) (c .only .ensures)
 
 returns-2 : tie.Need-returns-2
 unfolding factSet
-returns-2 c = rw (← c .before .before .before .before .bit-of .ensures, c .before .before .before .if1 .taken, ← c .before .before .bit-of2 .ensures, c .before .if2 .left) (c .only2 .ensures)
+returns-2 c =
+    rw (
+      ← c .before .before .before .before .bit-of .ensures,
+      c .before .before .before .if1 .taken,
+      ← c .before .before .bit-of2 .ensures,
+      c .before .if2 .left,
+    ) (c .only2 .ensures)
 
 returns-3 : tie.Need-returns-3
 unfolding factSet

@@ -24,18 +24,6 @@ returns-5 : tie.Need-returns-5
 unfolding setBy
 returns-5 c = rw (c .before .before .kind3 .given .1) (c .image-two .ensures)
 
-returns-6 : tie.Need-returns-6
-unfolding setBy
-returns-6 c = rw (c .before .enum-told3 .given .1) (c .only2 .ensures)
-
-returns-7 : tie.Need-returns-7
-unfolding setBy
-returns-7 c = rw (c .before .enum-told4 .given .1) (c .only3 .ensures)
-
-returns-8 : tie.Need-returns-8
-unfolding setBy
-returns-8 c = rw (c .before .enum-told5 .given .1) (c .only4 .ensures)
-
 pub set-by-spec : {M : Type 1} → statement M
 set-by-spec =
     tie.close
@@ -50,17 +38,8 @@ set-by-spec =
     (λ c κs. search needs)
     (λ c. search needs)
     (λ c κs. search needs)
-    (λ c. search needs)
-    (λ c κs. search needs)
-    (λ c. search needs)
-    (λ c κs. search needs)
-    (λ c. search needs)
-    (λ c κs. search needs)
     returns
     returns-2
     returns-3
     returns-4
-    returns-5
-    returns-6
-    returns-7
-    returns-8)
+    returns-5)

@@ -41,14 +41,14 @@ loop-again c =
     let second = c .before in
     let first = second .before .before in
     let kind = first .before .before .before .before in
-    let at = kind .before .before .before in
+    let at = kind .before .before .before .before in
     let a = at .before .before .before .args in
     let f = setOf (a .known) (a .request) in
     let turn = set-turn decisions f (single U) (a .rows .now) (at .loop .i) (a .sets .now) (at .loop .sets) (at .loop .inv .2) in (
       omega arith,
       length-set (at .loop .sets) (at .loop .i) (c .set-by .result) ∙ at .loop .inv .1,
       turn (first .earlier .result) (second .earlier2 .result) (c .set-by .result) (omega arith) (omega arith)
-          (first .earlier .ensures) (second .earlier2 .ensures) (rw (kind .kind-in .ensures) at (c .set-by .ensures)),
+          (first .earlier .ensures) (second .earlier2 .ensures) (rw (kind .as-row .ensures, kind .before .kind-in .ensures) at (c .set-by .ensures)),
     )
 
 same-length : tie.Need-same-length Inv-loop μ-loop
@@ -68,6 +68,7 @@ sets-below-spec =
     loop-holds
     (λ c. search needs)
     (λ c. search needs)
+    (λ c κs. search needs)
     (λ c κs. search needs)
     (λ c. search needs)
     (λ c. search needs)

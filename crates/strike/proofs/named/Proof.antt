@@ -5,9 +5,9 @@ use Prim.Native.Nat.{_≤_, _<_, _-_}
 use native.Mathlib.Omega.{arith}
 use lib.ListN.{length, take}
 use lib.Seq.{take-length}
-use Rattle.strike.specs.Strike.{names, namedBy, held}
+use Rattle.strike.specs.Strike.{names, namedBy}
 use Rattle.strike.proofs.Closing.{named-some, named-more}
-use Rattle.strike.proofs.Filling.{held-length, held-at}
+use Rattle.strike.proofs.Filling.{held, held-length, held-at}
 use borrow.Author.Needs.{needs}
 use Rattle.strike.proofs.named.Statement.{statement}
 use Rattle.strike.proofs.named.Tie as tie
@@ -27,8 +27,9 @@ returns c =
     let start = c .before .before .before .before .before in
     let i = c .before .before .before .before .loop .i in
     let l : i < length (held (start .args .t1)) = omega (arith, held-length (start .pre)) in
-    let e = held-at (start .pre) i (c .before .before .if1 .e) (omega arith) (λ w. (w .0 .taken, w .2)) (λ w. (w .0 .left, w .2)) (c .before .before .if1 .came) in
-    let n = sym (c .before .names-row .ensures ∙ ap (names (start .args .r)) e) in
+    let e = held-at (start .pre) i (c .before .before .if1 .e) (omega arith) (λ w. (w .0 .taken, w .2)) (λ w. (w .0 .left, w .2)) (c .before .before .if1 .came)
+    in
+    let n = sym (c .before .names-of .ensures ∙ ap (names (start .args .r)) e) in
     sym (named-some (start .args .r) (held (start .args .t1)) i l (n ∙ c .if2 .taken))
 
 loop-again : tie.Need-loop-again Inv-loop μ-loop
@@ -36,8 +37,9 @@ loop-again c =
     let start = c .before .before .before .before .before in
     let i = c .before .before .before .before .loop .i in
     let l : i < length (held (start .args .t1)) = omega (arith, held-length (start .pre)) in
-    let e = held-at (start .pre) i (c .before .before .if1 .e) (omega arith) (λ w. (w .0 .taken, w .2)) (λ w. (w .0 .left, w .2)) (c .before .before .if1 .came) in
-    let n = sym (c .before .names-row .ensures ∙ ap (names (start .args .r)) e) in
+    let e = held-at (start .pre) i (c .before .before .if1 .e) (omega arith) (λ w. (w .0 .taken, w .2)) (λ w. (w .0 .left, w .2)) (c .before .before .if1 .came)
+    in
+    let n = sym (c .before .names-of .ensures ∙ ap (names (start .args .r)) e) in
     (omega arith, named-more (start .args .r) (held (start .args .t1)) i l (c .before .before .before .before .loop .inv .1) (n ∙ c .if2 .left))
 
 returns-2 : tie.Need-returns-2 Inv-loop μ-loop

@@ -1,126 +1,109 @@
 -- That `strike` (src/lib.rt) keeps its promise.
-use Rattle.strike.proofs.Answering.{turned-answers, open-fits, missing-answers, bytes-left, written-answers, stopped-answers, unstopped}
-use Rattle.strike.specs.Strike.{held, closedUp}
-use Rattle.table.specs.Reading.{written}
-use Rattle.table.proofs.Opening.{opened, turned}
-use native.Mathlib.Omega.{arith}
-use Prim.Native.Nat.{ℕ, _-_}
 use mathlib.Core.Path.{_≡_, sym, ap, _∙_}
-use lib.ListN.{length}
+use mathlib.Core.Bool.{false}
+use Prim.Native.Nat.{_+_, _-_, _≤_}
+use native.Mathlib.Omega.{arith}
+use lib.ListN.{length, getD}
 use lib.Dec.{ltb}
 use borrow.Author.Tests.{ltb-false}
+use Rattle.table.specs.Entries.{blank, sizeOf}
+use Rattle.table.specs.Reading.{contentsIn}
+use Rattle.table.proofs.Opening.{Opened, opened, turned}
+use Rattle.strike.specs.Strike.{struckBytes, shownStruck}
+use Rattle.strike.proofs.Telling.{unstopped}
+use Rattle.strike.proofs.Answering.{turned-answers, open-fits, missing-answers, bytes-left, stopped-answers, written-answers}
 use borrow.Author.Needs.{needs}
 use Rattle.strike.proofs.strike.Statement.{statement}
 use Rattle.strike.proofs.strike.Tie as tie
 
+-- once the table was read: the call's start, and what the reading stands for
+abbrev start-at : tie.After-enum-told → tie.Start
+start-at c = c .before .before .before .before .before
+
+open-at : (c : tie.After-enum-told) → Opened (start-at c .args .table .now) (c .before .before .read .result)
+open-at c = opened (start-at c .args .table .now) (c .before .before .read .result) (c .before .before .read .ensures) (c .enum-told .given .1)
+
+-- once the row's size is known: the bytes to write are the table's but for the row's own
+abbrev told-at : tie.After-size-of → tie.After-enum-told
+told-at c = c .before .before .before .before
+
+left-at : (c : tie.After-size-of) →
+    sizeOf (getD (told-at c .before .before .read .result .table .rows) (start-at (told-at c) .args .row) blank)
+    + length (struckBytes (start-at (told-at c) .args .row) (contentsIn (told-at c .before .before .read .result .table))) ≡ length
+    (start-at (told-at c) .args .table .now)
+left-at c = bytes-left (open-at (told-at c)) (start-at (told-at c) .args .row) (c .before .before .if1 .left)
+
+length-at : (c : tie.After-size-of) →
+    length (start-at (told-at c) .args .table .now) - c .size-of .result
+    ≡ length (struckBytes (start-at (told-at c) .args .row) (contentsIn (told-at c .before .before .read .result .table)))
+length-at c = omega (arith, c .size-of .ensures .0, left-at c)
+
+-- where neither 9 nor 11 is due: the row is not named, and the output has room
+none-due : (c : tie.Else2) → let size = c .before .before .before in
+    (c .before .before .named .result ≡ false) × (length (start-at (told-at size) .args .table .now) - size .size-of .result ≤ length
+    (start-at (told-at size) .args .out .now))
+none-due c =
+    let size = c .before .before .before in
+    let start = start-at (told-at size) .args in
+    let none = unstopped _ _ (sym (c .before .strike-refusal .ensures) ∙ c .if2 .left) in
+    (none .0, ltb-false (length (start .out .now)) (length (start .table .now) - size .size-of .result) (none .1))
+
 returns : tie.Need-returns
+unfolding shownStruck
 returns c =
-    let got = c .before .before .before .read in
-    let start = c .before .before .before .before .before .before in
-    let t = turned (start .args .table .now) (got .result) (got .ensures) (λ q. let z : _≡_ {A = ℕ} 0 1 = rw q at (c .before .before .match .keys2) in omega arith) in
-    turned-answers t (start .args .row) (start .args .out .now) (c .refused .result) (c .refused .ensures)
+    let told = c .before in
+    let got = told .before .before in
+    let start = got .before .before .before .args in
+    turned-answers (start .table .now) (start .row) (start .out .now) (got .read .result .why)
+    (turned (start .table .now) (got .read .result) (got .read .ensures) (told .enum-told2 .given .1))
 
 returns-2 : tie.Need-returns-2
+unfolding shownStruck
 returns-2 c =
-    let told = c .before .before in
-    let got = told .before .before .read in
-    let start = told .before .before .before .before .before in
-    let o = opened (start .args .table .now) (got .result) (got .ensures) (told .enum-told .given .1) in
-    missing-answers o (start .args .row) (start .args .out .now) (c .if1 .taken)
+    let told = c .before .before .before in
+    let answer = missing-answers (open-at told) (start-at told .args .row) (start-at told .args .out .now) (c .before .if1 .taken) in
+    (rw (c .of .ensures) (answer .0), answer .1)
 
 element-copy-out-e : tie.Need-element-copy-out-e
-element-copy-out-e c =
-    let told = c .before .before in
-    let got = told .before .before .read in
-    let start = told .before .before .before .before .before in
-    let o = opened (start .args .table .now) (got .result) (got .ensures) (told .enum-told .given .1) in
-    omega (arith, c .if1 .left, open-fits o .used-fit)
+element-copy-out-e c = omega (arith, c .if1 .left, open-fits (open-at (c .before .before)) .used-fit)
 
 sub-length : tie.Need-sub-length
-sub-length c =
-    let size = c in
-    let there = size .before .before in
-    let told = there .before .before in
-    let got = told .before .before .read in
-    let start = told .before .before .before .before .before in
-    let o = opened (start .args .table .now) (got .result) (got .ensures) (told .enum-told .given .1) in
-    omega (arith, size .numbers-of .ensures .0, bytes-left o (start .args .row) (there .if1 .left))
-
-sub-length-2 : tie.Need-sub-length-2
-sub-length-2 c =
-    let size = c in
-    let there = size .before .before in
-    let told = there .before .before in
-    let got = told .before .before .read in
-    let start = told .before .before .before .before .before in
-    let o = opened (start .args .table .now) (got .result) (got .ensures) (told .enum-told .given .1) in
-    omega (arith, size .numbers-of .ensures .0, bytes-left o (start .args .row) (there .if1 .left))
+sub-length c = omega (arith, c .size-of .ensures .0, left-at c)
 
 named-requires : tie.Need-named-requires
-named-requires c κs =
-    let size = c in
-    let there = size .before .before in
-    let told = there .before .before in
-    let got = told .before .before .read in
-    let start = told .before .before .before .before .before in
-    let o = opened (start .args .table .now) (got .result) (got .ensures) (told .enum-told .given .1) in
-    open-fits o
+named-requires c κs = open-fits (open-at (c .before .before .before .before))
 
 returns-3 : tie.Need-returns-3
+unfolding shownStruck
 returns-3 c =
-    let why = c .before in
+    let why = c .before .before in
     let size = why .before .before in
-    let there = size .before .before in
-    let told = there .before .before in
-    let got = told .before .before .read in
-    let start = told .before .before .before .before .before in
-    let o = opened (start .args .table .now) (got .result) (got .ensures) (told .enum-told .given .1) in
-    let t = got .result .table in
-    let row = start .args .row in
-    let out = start .args .out .now in
-    let left : length (start .args .table .now) - size .numbers-of .result - 1 ≡ length (written (closedUp row (held t))) =
-    omega (arith, size .numbers-of .ensures .0, bytes-left o row (there .if1 .left)) in
+    let told = size .before .before .before .before in
+    let start = start-at told .args in
+    let out = start .out .now in
     let named = why .before .named in
-    let refusal = why .strike-refusal in
-    stopped-answers o row (there .if1 .left) out (named .result) _ (refusal .result)
-    (named .ensures) (ap (ltb (length out)) (sym left)) (refusal .ensures) (c .if2 .taken)
+    let answer =
+    stopped-answers (open-at told) (start .row) (size .before .before .if1 .left) out (named .result) _ (why .strike-refusal .result)
+    (named .ensures) (ap (ltb (length out)) (sym (length-at size))) (why .strike-refusal .ensures) (c .before .if2 .taken) in
+    (rw (c .of2 .ensures) (answer .0), answer .1)
 
 write-requires : tie.Need-write-requires
 write-requires c κs =
-    let why = c .before .before in
-    let size = why .before .before in
-    let there = size .before .before in
-    let told = there .before .before in
-    let got = told .before .before .read in
-    let start = told .before .before .before .before .before in
-    let o = opened (start .args .table .now) (got .result) (got .ensures) (told .enum-told .given .1) in
-    let out = start .args .out .now in
-    let bytes = length (start .args .table .now) - size .numbers-of .result - 1 in
-    let none = unstopped (why .before .named .result) (ltb (length out) bytes) (sym (why .strike-refusal .ensures) ∙ c .before .if2 .left) in
-    let room = ltb-false (length out) bytes (none .1) in (
-      open-fits o,
-      there .if1 .left,
-      omega (arith, room, size .numbers-of .ensures .0, bytes-left o (start .args .row) (there .if1 .left)),
-    )
+    let size = c .before .before .before .before in
+    (open-fits (open-at (size .before .before .before .before)), size .before .before .if1 .left, omega (arith, none-due (c .before) .1, length-at size))
 
 returns-4 : tie.Need-returns-4
+unfolding shownStruck
 returns-4 c =
     let wrote = c .before .before in
-    let why = wrote .before .before .before in
-    let size = why .before .before in
-    let there = size .before .before in
-    let told = there .before .before in
-    let got = told .before .before .read in
-    let start = told .before .before .before .before .before in
-    let o = opened (start .args .table .now) (got .result) (got .ensures) (told .enum-told .given .1) in
-    let out = start .args .out .now in
-    let bytes = length (start .args .table .now) - size .numbers-of .result - 1 in
-    let none = unstopped (why .before .named .result) (ltb (length out) bytes) (sym (why .strike-refusal .ensures) ∙ wrote .before .before .if2 .left) in
-    let room = ltb-false (length out) bytes (none .1) in
+    let due = wrote .before .before in
+    let size = due .before .before .before in
+    let told = size .before .before .before .before in
+    let start = start-at told .args in
     let w = wrote .write in
-    written-answers o (start .args .row) (there .if1 .left) out (sym (why .before .named .ensures) ∙ none .0)
-    (omega (arith, room, size .numbers-of .ensures .0, bytes-left o (start .args .row) (there .if1 .left)))
-    (w .result) (w .last .1 .1 .0) (w .ensures)
+    written-answers (open-at told) (start .row) (size .before .before .if1 .left) (start .out .now)
+    (sym (due .before .before .named .ensures) ∙ none-due due .0)
+    (omega (arith, none-due due .1, length-at size)) (w .result) (w .last .1 .1 .0) (w .ensures)
 
 pub strike-spec : {M : Type 1} → statement M
 strike-spec =
@@ -129,15 +112,15 @@ strike-spec =
     (λ c κs. search needs)
     (λ c. search needs)
     (λ c. search needs)
-    (λ c κs. search needs)
     returns
+    (λ c κs. search needs)
     returns-2
     (λ c. search needs)
     element-copy-out-e
     (λ c κs. search needs)
     sub-length
-    sub-length-2
     named-requires
+    (λ c κs. search needs)
     (λ c κs. search needs)
     returns-3
     write-requires

@@ -4,8 +4,8 @@ use mathlib.Core.Logic.{⊎-elim}
 use Prim.Native.Nat.{_≤_, _<_, _-_}
 use native.Mathlib.Omega.{arith}
 use lib.ListN.{length}
-use Rattle.strike.specs.Strike.{closedUp, held}
-use Rattle.strike.proofs.Filling.{closed-count, closed-next, Filled, filled-none, filled-all, filled-within, filled-length, filled-room, filled-more}
+use Rattle.strike.specs.Strike.{closedUp}
+use Rattle.strike.proofs.Filling.{held, struck-held, closed-count, closed-next, Filled, filled-none, filled-all, filled-within, filled-length, filled-room, filled-more}
 use borrow.Author.Needs.{needs}
 use Rattle.strike.proofs.write.Statement.{statement}
 use Rattle.strike.proofs.write.Tie as tie
@@ -17,7 +17,10 @@ abbrev μ-loop : tie.MeasureT-loop
 μ-loop r out₀ t used count at₀ j₀ out at j = count - j
 
 loop-holds : tie.Need-loop-holds Inv-loop μ-loop
-loop-holds c = (omega arith, filled-none (closedUp (c .before .args .r) (held (c .before .args .t1))) (c .before .args .out .now) (c .before .pre .2))
+loop-holds c =
+    let start = c .before in
+    let fits = rw (struck-held (start .pre .0) (start .args .r) (start .pre .1)) at (start .pre .2) in
+    (omega arith, filled-none (closedUp (start .args .r) (held (start .args .t1))) (start .args .out .now) fits)
 
 mul-question : tie.Need-mul-question Inv-loop μ-loop
 mul-question c = record { fits = ⊎-elim (λ w. omega arith) (λ w. omega arith) (c .before .before .if1 .came) }
@@ -73,7 +76,8 @@ same-length c = filled-length (c .before .loop .inv .1)
 returns : tie.Need-returns Inv-loop μ-loop
 returns c =
     let start = c .before .before .before in
-    filled-all (c .before .loop .inv .1) (omega (arith, closed-count (start .pre .0) (start .args .r) (start .pre .1)))
+    let all = filled-all (c .before .loop .inv .1) (omega (arith, closed-count (start .pre .0) (start .args .r) (start .pre .1))) in
+    rw (struck-held (start .pre .0) (start .args .r) (start .pre .1)) all
 
 pub write-spec : {M : Type 1} → statement M
 write-spec =

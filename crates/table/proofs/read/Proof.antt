@@ -1,12 +1,18 @@
 -- That `read` (src/lib.rt) keeps its promise.
-use Rattle.table.specs.declared.entries.Step.the-variants.{Row, Question}
-use Rattle.table.specs.Entries.{rowLimit, questionLimit, numbersOf, stepOf}
-use Rattle.table.proofs.Turns.{At, start, row-room, row-turn, question-room, question-turn, bad, done}
-use Rattle.table.specs.Reading.{shown}
-use lib.ListN.{length, getD, drop}
-use native.Mathlib.Omega.{arith}
-use Prim.Native.Nat.{_+_, _-_, _≤_, _<_, max}
 use mathlib.Core.Path.{_≡_, sym, ap, _∙_}
+use mathlib.Core.List.{List}
+use mathlib.Core.Logic.{⊎-elim}
+use Prim.Native.Nat.{ℕ, _+_, _-_, _≤_, _<_, max}
+use native.Mathlib.Omega.{arith}
+use lib.ListN.{length}
+use Rattle.table.specs.declared.entries.Entry.{Entry}
+use Rattle.table.specs.declared.refusals.Refusal.{Refusal}
+use Rattle.table.specs.Said.{answered, refusing}
+use Rattle.table.specs.Entries.{rowLimit, questionLimit}
+use Rattle.table.specs.Reading.{shown}
+use Rattle.table.proofs.OneEntry.{size}
+use Rattle.table.proofs.Steps.{took, turned-away, step-given}
+use Rattle.table.proofs.Turns.{At, start, here, inside-of, taken, room-here, row-room, row-more, question-room, question-more, bad, done}
 use borrow.Author.Needs.{needs}
 use Rattle.table.proofs.read.Statement.{statement}
 use Rattle.table.proofs.read.Tie as tie
@@ -17,81 +23,127 @@ Inv-loop s t₀ at₀ t at = At s t at
 abbrev μ-loop : tie.MeasureT-loop
 μ-loop s t₀ at₀ t at = length s - at
 
--- at an entry that is a row: the step that was taken, and the room for it
-row-step : (c : tie.After-known-told Inv-loop μ-loop) →
-    stepOf (getD (c .before .before .before .before .before .before .before .before .args .s .now) (c .before .before .before .before .before .loop .at) 0) (drop (c .before .before .before .before .before .loop .at + 1) (c .before .before .before .before .before .before .before .before .args .s .now)) (c .before .before .before .before .before .loop .t .used) (c .before .before .before .before .before .loop .t .asked)
-    ≡ Row (c .before .step .given .0 .0)
-row-step c = sym (c .before .before .before .step-at .ensures) ∙ c .before .step .given .1
-
-row-fits : (c : tie.After-known-told Inv-loop μ-loop) →
-    (c .before .before .before .before .before .loop .t .used < rowLimit) × (c .before .before .before .before .before .loop .at + 1 + numbersOf (c .before .step .given .0 .0) ≤ length (c .before .before .before .before .before .before .before .before .args .s .now))
-row-fits c =
-    let at = c .before .before .before .before .before in
-    row-room (at .before .before .before .args .s .now) (at .loop .t) (at .loop .at) (at .loop .inv) (c .before .before .before .before .loop-test .taken) (c .before .step .given .0 .0) (row-step c)
-
--- at an entry that is a question: the step that was taken, and the room for it
-question-step : (c : tie.After-known-told2 Inv-loop μ-loop) →
-    stepOf (getD (c .before .before .before .before .before .before .before .before .args .s .now) (c .before .before .before .before .before .loop .at) 0) (drop (c .before .before .before .before .before .loop .at + 1) (c .before .before .before .before .before .before .before .before .args .s .now)) (c .before .before .before .before .before .loop .t .used) (c .before .before .before .before .before .loop .t .asked)
-    ≡ Question (c .before .step2 .given .0 .0)
-question-step c = sym (c .before .before .before .step-at .ensures) ∙ c .before .step2 .given .1
-
-question-fits : (c : tie.After-known-told2 Inv-loop μ-loop) →
-    (c .before .before .before .before .before .loop .t .asked < questionLimit) × (c .before .before .before .before .before .loop .at + 1 + numbersOf (c .before .step2 .given .0 .0) ≤ length (c .before .before .before .before .before .before .before .before .args .s .now))
-question-fits c =
-    let at = c .before .before .before .before .before in
-    question-room (at .before .before .before .args .s .now) (at .loop .t) (at .loop .at) (at .loop .inv) (c .before .before .before .before .loop-test .taken) (c .before .step2 .given .0 .0) (question-step c)
-
 loop-holds : tie.Need-loop-holds Inv-loop μ-loop
 loop-holds c = start (c .before .before .args .s .now) (c .empty .result) (c .empty .ensures)
 
+-- at an entry that was read: the loop's head, the bytes, the entry, and that it is what the definition reads there
+abbrev at-head : tie.After-known-told Inv-loop μ-loop → tie.At-loop Inv-loop μ-loop
+at-head c = c .before .before .before .before .before .before
+
+abbrev bytes : tie.After-known-told Inv-loop μ-loop → List ℕ
+bytes c = at-head c .before .before .before .args .s .now
+
+abbrev entry : tie.After-known-told Inv-loop μ-loop → Entry
+entry c = c .before .step .given .0 .0
+
+in-bytes : (c : tie.After-known-told Inv-loop μ-loop) → at-head c .loop .at < length (bytes c)
+in-bytes c = c .before .before .before .before .before .loop-test .taken
+
+taken-here : (c : tie.After-known-told Inv-loop μ-loop) →
+    here (bytes c) (at-head c .loop .t) (at-head c .loop .at) (at-head c .loop .inv) (in-bytes c) ≡ answered (entry c)
+taken-here c = took _ (entry c) (sym (c .before .before .before .step-at .ensures) ∙ c .before .step .given .1)
+
+row-fits : (c : tie.After-enum-told Inv-loop μ-loop) → at-head (c .before .before) .loop .t .tally .rows < rowLimit
+row-fits c =
+    let told = c .before .before in
+    let head = at-head told in
+    row-room (bytes told) (head .loop .t) (head .loop .at) (head .loop .inv) (in-bytes told) (entry told) (c .enum-told .given .0 .0) (taken-here told)
+    (c .enum-told .given .1)
+
+question-fits : (c : tie.After-enum-told2 Inv-loop μ-loop) → at-head (c .before .before) .loop .t .tally .questions < questionLimit
+question-fits c =
+    let told = c .before .before in
+    let head = at-head told in
+    question-room (bytes told) (head .loop .t) (head .loop .at) (head .loop .inv) (in-bytes told) (entry told) (c .enum-told2 .given .0 .0) (taken-here told)
+    (c .enum-told2 .given .1)
+
+inside : (c : tie.After-size-of Inv-loop μ-loop) →
+    at-head (c .before .before .before) .loop .at + c .size-of .result ≤ length (bytes (c .before .before .before))
+inside c =
+    let told = c .before .before .before in
+    let head = at-head told in
+    rw (c .size-of .ensures .0) (inside-of (bytes told) (head .loop .t) (head .loop .at) (head .loop .inv) (in-bytes told) (entry told) (taken-here told))
+
 mul-e : tie.Need-mul-e Inv-loop μ-loop
-mul-e c = record { fits = omega (arith, row-fits c .0) }
+mul-e c = record { fits = omega (arith, row-fits c) }
 
 element-set-from-e : tie.Need-element-set-from-e Inv-loop μ-loop
-element-set-from-e c = row-fits c .0
+element-set-from-e c = row-fits c
 
-add-t : tie.Need-add-t Inv-loop μ-loop
-add-t c = record { fits = omega (arith, row-fits c .0) }
+mul-e-2 : tie.Need-mul-e-2 Inv-loop μ-loop
+mul-e-2 c = record { fits = omega (arith, question-fits c) }
+
+element-set-from-e-2 : tie.Need-element-set-from-e-2 Inv-loop μ-loop
+element-set-from-e-2 c = question-fits c
+
+one-more-requires : tie.Need-one-more-requires Inv-loop μ-loop
+one-more-requires c κs =
+    let told = c .before in
+    let head = at-head told in
+    room-here (bytes told) (head .loop .t) (head .loop .at) (head .loop .inv) (in-bytes told) (entry told) (taken-here told)
+
+add-at : tie.Need-add-at Inv-loop μ-loop
+add-at c = record { fits = omega (arith, inside c) }
 
 loop-less : tie.Need-loop-less Inv-loop μ-loop
-loop-less c = omega (arith, row-fits (c .before .before .before) .1, c .numbers-of .ensures .0)
+loop-less c = omega (arith, inside c, c .size-of .ensures .0, size (entry (c .before .before .before)))
 
 loop-again : tie.Need-loop-again Inv-loop μ-loop
 loop-again c =
-    let at = c .before .before .before .before .before .before .before .before in
-    let p = c .before .larger .ensures ∙ ap (max (at .loop .t .predicates)) (c .before .before .uses-of .ensures .0) in
-    rw (c .numbers-of .ensures .0) (row-turn (at .before .before .before .args .s .now) (at .loop .t) (at .loop .at) (at .loop .inv) (c .before .before .before .before .before .before .before .loop-test .taken) (c .before .before .before .before .step .given .0 .0) (c .before .larger .result) (row-step (c .before .before .before)) p)
+    let more = c .before .one-more in
+    let came = c .before .before .match2 in
+    let told = c .before .before .before in
+    let head = at-head told in
+    let s = bytes told in
+    let e = entry told in
+    let stands =
+    ⊎-elim
+    (λ w. row-more s (head .loop .t) (head .loop .at) (head .loop .inv) (in-bytes told) e (w .1 .given .0 .0) (came .t) (w .3 .result) (more .result)
+    (taken-here told)
+    (w .1 .given .1) (w .3 .ensures ∙ ap (max (head .loop .t .predicates)) (w .2 .ensures .0)) (w .4) (more .ensures))
+    (λ w. question-more s (head .loop .t) (head .loop .at) (head .loop .inv) (in-bytes told) e (w .1 .given .0 .0) (came .t) (more .result) (taken-here told)
+    (w .1 .given .1) (w .2) (more .ensures))
+    (came .came) in
+    rw (c .size-of .ensures .0) (taken s (head .loop .t) (head .loop .at) (head .loop .inv) (in-bytes told) e _ (taken-here told) stands)
 
-mul-e-2 : tie.Need-mul-e-2 Inv-loop μ-loop
-mul-e-2 c = record { fits = omega (arith, question-fits c .0) }
+-- at an entry that is refused: the same
+abbrev refused-head : tie.After-struct-known Inv-loop μ-loop → tie.At-loop Inv-loop μ-loop
+refused-head c = c .before .before .before .before .before .before .before
 
-element-set-from-e-2 : tie.Need-element-set-from-e-2 Inv-loop μ-loop
-element-set-from-e-2 c = question-fits c .0
+abbrev refused-bytes : tie.After-struct-known Inv-loop μ-loop → List ℕ
+refused-bytes c = refused-head c .before .before .before .args .s .now
 
-add-t-2 : tie.Need-add-t-2 Inv-loop μ-loop
-add-t-2 c = record { fits = omega (arith, question-fits c .0) }
+abbrev why : tie.After-struct-known Inv-loop μ-loop → Refusal
+why c = c .before .before .step2 .given .0 .0
 
-loop-less-2 : tie.Need-loop-less-2 Inv-loop μ-loop
-loop-less-2 c = omega (arith, question-fits (c .before) .1, c .numbers-of2 .ensures .0)
+in-refused : (c : tie.After-struct-known Inv-loop μ-loop) → refused-head c .loop .at < length (refused-bytes c)
+in-refused c = c .before .before .before .before .before .before .loop-test .taken
 
-loop-again-2 : tie.Need-loop-again-2 Inv-loop μ-loop
-loop-again-2 c =
-    let at = c .before .before .before .before .before .before in
-    rw (c .numbers-of2 .ensures .0) (question-turn (at .before .before .before .args .s .now) (at .loop .t) (at .loop .at) (at .loop .inv) (c .before .before .before .before .before .loop-test .taken) (c .before .before .step2 .given .0 .0) (question-step (c .before)))
+refused-here : (c : tie.After-struct-known Inv-loop μ-loop) →
+    here (refused-bytes c) (refused-head c .loop .t) (refused-head c .loop .at) (refused-head c .loop .inv) (in-refused c) ≡ refusing (why c)
+refused-here c = turned-away _ (why c) (sym (c .before .before .before .before .step-at .ensures) ∙ c .before .before .step2 .given .1)
+
+add-place : tie.Need-add-place Inv-loop μ-loop
+add-place c =
+    let given = step-given _ _ _ (why c) (refused-here c) in
+    record { fits = omega (arith, given .place, in-refused c) }
 
 returns : tie.Need-returns Inv-loop μ-loop
 returns c =
-    let at = c .before .before .before .before .before .before in
-    let s = at .before .before .before .args .s .now in
-    let q = sym (c .before .before .before .before .step-at .ensures) ∙ c .before .before .step3 .given .1 in
-    c .refused .ensures ∙ ap shown (sym (bad s (at .loop .t) (at .loop .at) (at .loop .inv) (c .before .before .before .before .before .loop-test .taken) (c .before .before .step3 .given .0 .0) q))
+    let at = c .before in
+    let head = refused-head at in
+    c .refused .ensures ∙ ap shown (sym (bad (refused-bytes at) (head .loop .t) (head .loop .at) (head .loop .inv) (in-refused at) (why at) (refused-here at)))
 
 returns-2 : tie.Need-returns-2 Inv-loop μ-loop
 unfolding shown
 returns-2 c =
-    let at = c .before in
-    let s = at .before .before .before .args .s .now in
-    rw (done s (at .loop .t) (at .loop .at) (at .loop .inv) (c .loop-test .left), at .loop .inv .stands)
+    let left = c .before in
+    let head = left .before in
+    rw (
+      done (head .before .before .before .args .s .now) (head .loop .t) (head .loop .at) (head .loop .inv) (left .loop-test .left),
+      head .loop .inv .stands,
+      c .of .ensures,
+    )
 
 pub read-spec : {M : Type 1} → statement M
 read-spec =
@@ -103,26 +155,22 @@ read-spec =
     loop-holds
     (λ c κs. search needs)
     (λ c. search needs)
+    (λ c. search needs)
     mul-e
     element-set-from-e
-    add-t
     (λ c κs. search needs)
     (λ c κs. search needs)
-    (λ c. search needs)
-    (λ c κs. search needs)
-    (λ c. search needs)
-    loop-less
-    loop-again
     (λ c. search needs)
     mul-e-2
     element-set-from-e-2
-    add-t-2
-    (λ c. search needs)
+    one-more-requires
     (λ c κs. search needs)
+    add-at
+    loop-less
+    loop-again
     (λ c. search needs)
-    loop-less-2
-    loop-again-2
-    (λ c. search needs)
+    add-place
     (λ c κs. search needs)
     returns
+    (λ c κs. search needs)
     returns-2)

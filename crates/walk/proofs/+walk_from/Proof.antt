@@ -159,7 +159,8 @@ walk-from-returns-3 t c =
     let unsettled = sym (seen .visit .ensures) ∙ told .enum-told3 .given .1 in
     c .plus .ensures
     ∙ first-ends see (a .n) (a .k) (a .facts) (a .budget) less (omega (arith, paid .if1 .left)) unsettled (first .walk-from .result) (first .walk-from .ensures)
-    (λ a q. ⊎-elim (λ e. let z : _≡_ {A = ℕ} 0 1 = rw q at e in omega arith) (λ e. let z : _≡_ {A = ℕ} 0 2 = rw q at e in omega arith) (c .before .match2 .keys2))
+    (λ a q. ⊎-elim (λ e. let z : _≡_ {A = ℕ} 0 1 = rw q at e in omega arith) (λ e. let z : _≡_ {A = ℕ} 0 2 = rw q at e in omega arith)
+    (c .before .match2 .keys2))
 
 walk-from-add-walk-from-2 : (t : ℕ) → walk-from-lts.Need-add-walk-from-2 (
   visit-reads.Asked,
@@ -225,7 +226,13 @@ walk-from-walk-from-requires-2 t c κs =
     let then = first .walk-from .kept in (
       omega (arith, pre .0, less),
       (
-        (pre .1 .0 .0, pre .1 .0 .1, omega (arith, pre .1 .0 .2, kept .1 .1 .0, then .1 .1 .0), omega (arith, pre .1 .0 .3, kept .1 .1 .1 .0, then .1 .1 .1 .0), pre .1 .0 .4),
+        (
+          pre .1 .0 .0,
+          pre .1 .0 .1,
+          omega (arith, pre .1 .0 .2, kept .1 .1 .0, then .1 .1 .0),
+          omega (arith, pre .1 .0 .3, kept .1 .1 .1 .0, then .1 .1 .1 .0),
+          pre .1 .0 .4,
+        ),
         omega (arith, less),
         pre .1 .2,
         yes .with-yes .ensures .1,

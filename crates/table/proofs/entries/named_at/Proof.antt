@@ -5,7 +5,7 @@ use Rattle.table.proofs.entries.named_at.Statement.{statement}
 use Rattle.table.proofs.entries.named_at.Tie as tie
 
 returns : tie.Need-returns
-returns c = simp (lt-ltb _ _ (c .before .if1 .taken), c .wide .ensures .0)
+returns c = simp (lt-ltb _ _ (c .before .if1 .taken), c .index .ensures .0)
 
 returns-2 : tie.Need-returns-2
 returns-2 c = simp (le-ltb _ _ (c .if1 .left))

@@ -4,7 +4,7 @@ use Rattle.table.proofs.entries.uses_of.Statement.{statement}
 use Rattle.table.proofs.entries.uses_of.Tie as tie
 
 returns-2 : tie.Need-returns-2
-returns-2 c = (rw (← c .before .before .before .form-of .ensures, c .enum-told2 .given .1, c .before .before .wide .ensures .0), search needs)
+returns-2 c = (rw (← c .before .before .before .form-of .ensures, c .enum-told2 .given .1, c .before .before .index .ensures .0), search needs)
 
 pub uses-of-spec : {M : Type 1} → statement M
 uses-of-spec =

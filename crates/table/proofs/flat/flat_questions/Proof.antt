@@ -1,16 +1,18 @@
 -- That `flat::flat_questions` (src/flat.rt) keeps its promise.
 use Rattle.table.proofs.Runs.{flat-turn}
-use Rattle.table.specs.Flat.{upTo, flat}
+use Rattle.table.specs.Flat.{perEntry, upTo, flat}
+use Rattle.table.specs.declared.kinds.Form.{Form}
+use Rattle.table.specs.Entries.{questionLimit}
 use Rattle.table.specs.Reading.{padded}
 use native.Mathlib.Omega.{arith}
-use Prim.Native.Nat.{_≤_, _-_}
-use mathlib.Core.Path.{_≡_, refl}
+use Prim.Native.Nat.{_*_, _-_, _≤_}
+use mathlib.Core.Path.{_≡_, refl, ap}
 use borrow.Author.Needs.{needs}
 use Rattle.table.proofs.flat.flat_questions.Statement.{statement}
 use Rattle.table.proofs.flat.flat_questions.Tie as tie
 
 abbrev Inv-loop : tie.InvT-loop
-Inv-loop end t run₀ i₀ run i = (i ≤ end) × (run ≡ padded 0 192 (flat (upTo (t .questions) i)))
+Inv-loop end t run₀ i₀ run i = (i ≤ end) × (run ≡ padded 0 (perEntry * questionLimit) (flat (upTo (t .questions) i)))
 
 abbrev μ-loop : tie.MeasureT-loop
 μ-loop end t run₀ i₀ run i = end - i
@@ -22,7 +24,11 @@ loop-holds c = (omega arith, refl)
 loop-again : tie.Need-loop-again Inv-loop μ-loop
 loop-again c =
     let at = c .before .before .before in
-    (omega arith, flat-turn (at .before .args .t1 .questions) 192 (at .loop .i) (c .byte-of .result) (at .loop .run) (omega arith) (at .loop .inv .1) (c .byte-of .ensures))
+    let byte = ap (λ (f : Form). f .byte) (c .form-of .ensures) in (
+      omega arith,
+      flat-turn (at .before .args .t1 .questions) (perEntry * questionLimit) (at .loop .i) (c .form-of .result .byte) (at .loop .run) (omega arith)
+          (at .loop .inv .1) byte,
+    )
 
 returns : tie.Need-returns Inv-loop μ-loop
 returns c = let q : c .before .loop .i ≡ c .before .before .args .end = omega arith in rw q at (c .before .loop .inv .1)

@@ -14,7 +14,8 @@ returns c =
     rw (c .decision-of .ensures, q) (always-kind (c .before .before .before .args .byte) (omega arith))
 
 returns-2 : tie.Need-returns-2
-returns-2 c = let q : 0x20 + c .before .before .before .args .byte % 16 ≡ c .before .before .before .args .byte = omega arith in sym (rw q at (c .one-of .ensures))
+returns-2 c =
+    let q : 0x20 + c .before .before .before .args .byte % 16 ≡ c .before .before .before .args .byte = omega arith in sym (rw q at (c .one-of .ensures))
 
 returns-3 : tie.Need-returns-3
 returns-3 c = sym (gap 0x04 0x10 (c .before .before .args .byte) refl (omega arith) (omega arith))
@@ -54,11 +55,20 @@ returns-12 c = let q : c .before .before .args .byte ≡ 0x43 = omega arith in r
 
 returns-13 : tie.Need-returns-13
 returns-13 c =
-    let l = past-three (c .before .before .args .byte % 16) (c .match3 .rest .0 .0 .0 .1) (c .match3 .rest .0 .0 .1) (c .match3 .rest .0 .1) (c .match3 .rest .1) in
+    let l = past-three (c .before .before .args .byte % 16) (c .match3 .rest .0 .0 .0 .1) (c .match3 .rest .0 .0 .1) (c .match3 .rest .0 .1)
+    (c .match3 .rest .1) in
     sym (gap 0x44 0x50 (c .before .before .args .byte) refl (omega (arith, c .before .match .keys5, l)) (omega (arith, c .before .match .keys5)))
 
 returns-14 : tie.Need-returns-14
-returns-14 c = sym (gap 0x50 0x100 (c .before .args .byte) refl (omega (arith, c .match .rest .0 .0 .0 .0 .1, c .match .rest .0 .0 .0 .1, c .match .rest .0 .0 .1, c .match .rest .0 .1, c .match .rest .1)) (omega arith))
+returns-14 c =
+    sym (gap 0x50 0x100 (c .before .args .byte) refl (omega (
+      arith,
+      c .match .rest .0 .0 .0 .0 .1,
+      c .match .rest .0 .0 .0 .1,
+      c .match .rest .0 .0 .1,
+      c .match .rest .0 .1,
+      c .match .rest .1,
+    )) (omega arith))
 
 pub kind-of-spec : {M : Type 1} → statement M
 kind-of-spec =

@@ -1,45 +1,46 @@
 -- That `lookup::entry` (src/lookup.rt) keeps its promise.
-use native.Mathlib.Omega.{arith}
-use Rattle.table.specs.Reading.{reading}
-use Rattle.table.specs.Lookup.{placeOf}
-use Rattle.table.specs.declared.lookup.Place.the-variants.{At, Missing}
-use Rattle.table.proofs.RowPart.{at-part, missing-part}
 use mathlib.Core.Path.{_≡_, refl, sym, _∙_}
+use Prim.Native.Nat.{_-_}
+use native.Mathlib.Omega.{arith}
+use Rattle.table.specs.declared.lookup.Part.{Part}
+use Rattle.table.specs.Said.{answered}
+use Rattle.table.specs.Reading.{reading}
+use Rattle.table.specs.Lookup.{placeOf, partAt}
+use Rattle.table.proofs.RowPart.{Lent, lent, at-part, missing-part}
 use borrow.Author.Needs.{needs}
 use Rattle.table.proofs.lookup.entry.Statement.{statement}
 use Rattle.table.proofs.lookup.entry.Tie as tie
 
+-- at a row that was found: its part, and what is known of it
+abbrev part-at : tie.After-struct-known → Part
+part-at c = c .before .before .found .given .0 .0
+
+place-at : (c : tie.After-struct-known) →
+    placeOf (reading (c .before .before .before .before .before .before .args .table .now))
+    (c .before .before .before .before .before .before .args .row) ≡ answered (part-at c)
+place-at c = at-part _ (part-at c) (sym (c .before .before .before .before .find .ensures) ∙ c .before .before .found .given .1)
+
+lent-at : (c : tie.After-struct-known) →
+    Lent (c .before .before .before .before .before .before .args .table .now) (c .before .before .before .before .before .before .args .row) (part-at c)
+lent-at c = lent _ _ (part-at c) (place-at c)
+
 add-end : tie.Need-add-end
-add-end c =
-    let start = c .before .before .before .before .before .args in
-    let place = c .before .found .given in
-    let is = sym (c .before .before .before .find .ensures) ∙ place .1 in
-    record { fits = omega (arith, at-part (start .table .now) (start .row) (place .0 .0) (place .0 .1 .0) is .0) }
+add-end c = record { fits = omega (arith, lent-at c .inside) }
 
 part-result-end : tie.Need-part-result-end
-part-result-end c =
-    let start = c .before .before .before .before .before .args in
-    let place = c .before .found .given in
-    let is = sym (c .before .before .before .find .ensures) ∙ place .1 in
-    at-part (start .table .now) (start .row) (place .0 .0) (place .0 .1 .0) is .0
+part-result-end c = lent-at c .inside
 
 returns : tie.Need-returns
-returns c =
-    let start = c .before .before .before .before .before .before .args in
-    let place = c .before .before .found .given in
-    let is : placeOf (reading (start .table .now)) (start .row) ≡ At (place .0 .0) (place .0 .1 .0) =
-    sym (c .before .before .before .before .find .ensures) ∙ place .1 in
-    let part = at-part (start .table .now) (start .row) (place .0 .0) (place .0 .1 .0) is in
-    (part .1, (part .2, (refl, rw is (omega arith))))
+returns c = (lent-at (c .before) .holds, (refl, rw (place-at (c .before)) (omega arith)))
 
 returns-2 : tie.Need-returns-2
+unfolding partAt
 returns-2 c =
-    let start = c .before .before .before .before .before .args in
-    let place = c .before .enum-told .given in
-    let is : placeOf (reading (start .table .now)) (start .row) ≡ Missing (place .0 .0) (place .0 .1 .0) =
-    sym (c .before .before .before .find .ensures) ∙ place .1 in
-    let part = missing-part _ _ _ _ is in
-    (part .0, (part .1, (refl, rw is (omega arith))))
+    let told = c .before in
+    let start = told .before .before .before .before .args in
+    let why = told .enum-told .given in
+    let is = missing-part (placeOf (reading (start .table .now)) (start .row)) (why .0 .0) (sym (told .before .before .find .ensures) ∙ why .1) in
+    (rw is, (refl, rw is (omega arith)))
 
 pub entry-spec : {M : Type 1} → statement M
 entry-spec =

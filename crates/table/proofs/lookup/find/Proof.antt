@@ -1,69 +1,71 @@
 -- That `lookup::find` (src/lookup.rt) keeps its promise.
-use Rattle.table.proofs.Opening.{opened, turned}
-use Rattle.table.proofs.Padding.{padded-length}
-use Rattle.table.proofs.RowPart.{found-place}
-use Rattle.table.specs.Lookup.{missingOf, placeOf}
+use mathlib.Core.Path.{_≡_, ap, _∙_}
 use mathlib.Core.List.{List}
-use Rattle.table.specs.Reading.{Result, written, tableOf}
-use Rattle.table.specs.Entries.{blank, rowLimit, numbersOf}
+use Prim.Native.Nat.{ℕ}
+use native.Mathlib.Omega.{arith}
+use lib.ListN.{length, getD, take}
 use Rattle.table.specs.declared.entries.Entry.{Entry}
 use Rattle.table.specs.declared.Table.{Table}
-use lib.ListN.{length, getD, take}
-use borrow.Author.Tests.{le-ltb}
-use native.Mathlib.Omega.{arith}
-use Prim.Native.Nat.{ℕ, _-_}
-use mathlib.Core.Path.{_≡_, sym, ap, _∙_}
+use Rattle.table.specs.declared.lookup.Place.the-variants.{At}
+use Rattle.table.specs.Entries.{blank, rowLimit, sizeOf}
+use Rattle.table.specs.Contents.{written}
+use Rattle.table.specs.Reading.{tableOf}
+use Rattle.table.specs.Lookup.{placeOf, shownPlace}
+use Rattle.table.proofs.Padding.{padded-length}
+use Rattle.table.proofs.Opening.{Opened, opened, turned}
+use Rattle.table.proofs.RowPart.{place-there, place-missing, found-part}
 use borrow.Author.Needs.{needs}
 use Rattle.table.proofs.lookup.find.Statement.{statement}
 use Rattle.table.proofs.lookup.find.Tie as tie
 
+-- once the table was read: the row asked for, what the reading stands for, and how many rows there are
+abbrev row-at : tie.After-enum-told → ℕ
+row-at c = c .before .before .before .before .args .row
+
+open-at : (c : tie.After-enum-told) → Opened (c .before .before .before .before .args .table .now) (c .before .before .read .result)
+open-at c =
+    opened (c .before .before .before .before .args .table .now) (c .before .before .read .result) (c .before .before .read .ensures) (c .enum-told .given .1)
+
+used : (c : tie.After-enum-told) → c .before .before .read .result .table .tally .rows ≡ length (open-at c .contents .rows)
+unfolding tableOf
+used c = ap (λ (t : Table). t .tally .rows) (open-at c .table)
+
 returns : tie.Need-returns
-unfolding placeOf
+unfolding placeOf shownPlace
 returns c =
-    let s = c .before .before .before .before .before .args .table .now in
-    let o = turned s (c .before .before .before .read .result) (c .before .before .before .read .ensures) (λ q. let z : _≡_ {A = ℕ} 0 1 = rw q at (c .before .before .match .keys2) in omega arith) in
-    c .missing .ensures ∙ ap missingOf (o .outcome) ∙ sym (ap (λ (x : Result). placeOf x (c .before .before .before .before .before .args .row)) (o .is))
+    let told = c .before in
+    let got = told .before .before in
+    rw (turned (got .before .before .args .table .now) (got .read .result) (got .read .ensures) (told .enum-told2 .given .1))
 
 returns-2 : tie.Need-returns-2
-unfolding placeOf tableOf
+unfolding shownPlace
 returns-2 c =
-    let s = c .before .before .before .before .before .before .args .table .now in
-    let row = c .before .before .before .before .before .before .args .row in
-    let o = opened s (c .before .before .before .before .read .result) (c .before .before .before .before .read .ensures) (c .before .before .enum-told .given .1) in
-    let used = ap (λ (t : Table). t .used) (o .table) in
-    rw (o .is) (simp (le-ltb _ _ (rw used at (c .if1 .taken))))
+    let told = c .before .before .before in
+    let o = open-at told in
+    rw (o .is, place-missing (o .contents) (row-at told) (rw (used told) at (c .before .if1 .taken)), c .of .ensures)
 
 element-copy-out-e : tie.Need-element-copy-out-e
-unfolding tableOf
-element-copy-out-e c =
-    let s = c .before .before .before .before .before .before .args .table .now in
-    let row = c .before .before .before .before .before .before .args .row in
-    let o = opened s (c .before .before .before .before .read .result) (c .before .before .before .before .read .ensures) (c .before .before .enum-told .given .1) in
-    let used = ap (λ (t : Table). t .used) (o .table) in
-    omega (arith, rw used at (c .if1 .left), o .whole .rows-fit)
+element-copy-out-e c = omega (arith, rw (used (c .before .before)) at (c .if1 .left), open-at (c .before .before) .whole .rows-fit)
 
 start-of-requires : tie.Need-start-of-requires
 unfolding tableOf
 start-of-requires c κs =
-    let s = c .before .before .before .before .before .before .before .before .args .table .now in
-    let row = c .before .before .before .before .before .before .before .before .args .row in
-    let o = opened s (c .before .before .before .before .before .before .read .result) (c .before .before .before .before .before .before .read .ensures) (c .before .before .before .before .enum-told .given .1) in
-    let used = ap (λ (t : Table). t .used) (o .table) in
-    let l = padded-length blank rowLimit (o .contents .rows) (o .whole .rows-fit) in
-    (omega (arith, rw used at (c .before .before .if1 .left), o .whole .rows-fit), omega (arith, l, ap (λ (t : Table). length (t .rows)) (o .table)))
+    let told = c .before .before .before in
+    let o = open-at told in
+    let long = padded-length blank rowLimit (o .contents .rows) (o .whole .rows-fit) in
+    (omega (arith, rw (used told) at (c .before .if1 .left), o .whole .rows-fit), omega (arith, long, ap (λ (t : Table). length (t .rows)) (o .table)))
 
 returns-3 : tie.Need-returns-3
-unfolding tableOf
+unfolding shownPlace
 returns-3 c =
-    let s = c .before .before .before .before .before .before .before .before .before .args .table .now in
-    let row = c .before .before .before .before .before .before .before .before .before .args .row in
-    let o = opened s (c .before .before .before .before .before .before .before .read .result) (c .before .before .before .before .before .before .before .read .ensures) (c .before .before .before .before .before .enum-told .given .1) in
-    let used = ap (λ (t : Table). t .used) (o .table) in
+    let told = c .before .before .before .before .before in
+    let row = row-at told in
+    let o = open-at told in
     let rows = ap (λ (t : Table). t .rows) (o .table) in
-    let start = c .start-of .ensures .0 ∙ ap (λ (es : List Entry). length (written (take row es))) rows in
-    let n = c .before .numbers-of .ensures .0 ∙ ap (λ (es : List Entry). numbersOf (getD es row blank)) rows in
-    found-place (o .contents) row (c .start-of .result) (c .before .numbers-of .result) (rw used at (c .before .before .before .if1 .left)) start n
-    ∙ sym (ap (λ (x : Result). placeOf x row) (o .is))
+    let start = c .before .start-of .ensures .0 ∙ ap (λ (es : List Entry). length (written (take row es))) rows in
+    let size = c .size-of .ensures .0 ∙ ap (λ (es : List Entry). sizeOf (getD es row blank)) rows in
+    let there = rw (used told) at (c .before .before .before .if1 .left) in
+    rw (o .is, place-there (o .contents) row there) (ap At (found-part (o .contents) row (c .before .start-of .result) (c .size-of .result) there start size))
 
 pub find-spec : {M : Type 1} → statement M
 find-spec =
@@ -72,12 +74,11 @@ find-spec =
     (λ c κs. search needs)
     (λ c. search needs)
     (λ c. search needs)
-    (λ c κs. search needs)
     returns
+    (λ c κs. search needs)
     returns-2
     (λ c. search needs)
     element-copy-out-e
-    (λ c κs. search needs)
-    (λ c. search needs)
     start-of-requires
+    (λ c κs. search needs)
     returns-3)

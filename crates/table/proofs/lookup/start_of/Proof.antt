@@ -1,6 +1,7 @@
 -- That `lookup::start_of` (src/lookup.rt) keeps its promise.
 use Rattle.table.proofs.RowPart.{start-more}
-use Rattle.table.specs.Reading.{written}
+use Rattle.table.specs.Entries.{sizeLimit}
+use Rattle.table.specs.Contents.{written}
 use lib.ListN.{length, take}
 use native.Mathlib.Omega.{arith}
 use Prim.Native.Nat.{_≤_, _-_, _*_}
@@ -10,7 +11,7 @@ use Rattle.table.proofs.lookup.start_of.Statement.{statement}
 use Rattle.table.proofs.lookup.start_of.Tie as tie
 
 abbrev Inv-loop : tie.InvT-loop
-Inv-loop row t start₀ i₀ start i = (i ≤ row) × (start ≡ length (written (take i (t .rows)))) × (start ≤ 3 * i)
+Inv-loop row t start₀ i₀ start i = (i ≤ row) × (start ≡ length (written (take i (t .rows)))) × (start ≤ sizeLimit * i)
 
 abbrev μ-loop : tie.MeasureT-loop
 μ-loop row t start₀ i₀ start i = row - i
@@ -23,7 +24,7 @@ loop-again : tie.Need-loop-again Inv-loop μ-loop
 loop-again c =
     let at = c .before .before .before in
     let e = start-more (at .before .args .t1 .rows) (at .loop .i) (omega arith) in
-    (omega arith, rw (c .numbers-of .ensures .0, at .loop .inv .1) (sym e), omega arith)
+    (omega arith, rw (c .size-of .ensures .0, at .loop .inv .1) (sym e), omega arith)
 
 returns : tie.Need-returns Inv-loop μ-loop
 returns c =
@@ -38,7 +39,6 @@ start-of-spec =
     Inv-loop
     μ-loop
     loop-holds
-    (λ c. search needs)
     (λ c. search needs)
     (λ c. search needs)
     (λ c κs. search needs)

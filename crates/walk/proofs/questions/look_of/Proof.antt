@@ -17,7 +17,9 @@ unfolding ofMask bit
 returns-2 c = sym (look-at (c .before .args .t) 2 (c .match .keys2))
 
 returns-3 : tie.Need-returns-3
-returns-3 c = sym (look-at (c .before .args .t) (c .before .args .t % 4) refl ∙ look-open (c .before .args .t % 4) (omega arith) (c .match .rest .0 .1) (c .match .rest .1))
+returns-3 c =
+    sym (look-at (c .before .args .t) (c .before .args .t % 4) refl ∙ look-open (c .before .args .t % 4) (omega arith) (c .match .rest .0 .1)
+    (c .match .rest .1))
 
 pub look-of-spec : {M : Type 1} → statement M
 look-of-spec = tie.close (tie.spec returns returns-2 returns-3)

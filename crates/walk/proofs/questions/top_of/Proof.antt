@@ -4,6 +4,7 @@ use Rattle.walk.specs.Questions.{top}
 use Rattle.decide.proofs.RowByRow.{turn}
 use Rattle.decide.specs.Rows.{values}
 use Rattle.table.proofs.Runs.{held-at, held-small}
+use Rattle.table.specs.Entries.{numberLimit}
 use Rattle.table.specs.Flat.{entriesIn}
 use Rattle.table.specs.Reading.{padded}
 use lib.ListN.{getD}
@@ -15,7 +16,7 @@ use Rattle.walk.proofs.questions.top_of.Statement.{statement}
 use Rattle.walk.proofs.questions.top_of.Tie as tie
 
 abbrev Inv-loop : tie.InvT-loop
-Inv-loop questions question tops₀ i₀ tops i = (i ≤ question + 1) × (tops ≡ padded 0 256 (values topOf 0 (entriesIn questions) i))
+Inv-loop questions question tops₀ i₀ tops i = (i ≤ question + 1) × (tops ≡ padded 0 numberLimit (values topOf 0 (entriesIn questions) i))
 
 abbrev μ-loop : tie.MeasureT-loop
 μ-loop questions question tops₀ i₀ tops i = question + 1 - i
@@ -26,10 +27,15 @@ loop-holds c = (omega arith, refl)
 
 loop-again : tie.Need-loop-again Inv-loop μ-loop
 loop-again c =
-    let at = c .before .before .before .before .before .before .before .before in
+    let kind = c .before .before .before .before .before in
+    let at = kind .before .before .before .before in
     let a = at .before .before .args in
-    let v = rw (c .before .before .wide .ensures .0, c .before .wide2 .ensures .0, c .before .before .before .before .before .kind-in .ensures) at (c .top-by .ensures) in
-    (omega arith, turn topOf 0 (entriesIn (a .questions .now)) 256 (at .loop .i) (at .loop .tops) (c .top-by .result) (omega arith) (at .loop .inv .1) (v ∙ rw (held-at (a .questions .now) (at .loop .i) (omega arith))))
+    let v = rw (c .before .before .index .ensures .0, c .before .index2 .ensures .0, kind .as-question .ensures, kind .before .kind-in .ensures)
+    at (c .top-by .ensures) in (
+      omega arith,
+      turn topOf 0 (entriesIn (a .questions .now)) numberLimit (at .loop .i) (at .loop .tops) (c .top-by .result) (omega arith) (at .loop .inv .1)
+          (v ∙ rw (held-at (a .questions .now) (at .loop .i) (omega arith))),
+    )
 
 cast-result : tie.Need-cast-result Inv-loop μ-loop
 cast-result c =
@@ -60,6 +66,7 @@ top-of-spec =
     loop-holds
     (λ c. search needs)
     (λ c. search needs)
+    (λ c κs. search needs)
     (λ c κs. search needs)
     (λ c. search needs)
     (λ c. search needs)

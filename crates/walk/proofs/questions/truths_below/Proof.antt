@@ -43,7 +43,7 @@ loop-again c =
     let b = first .before .before in
     let a = b .before in
     let kind = a .before .before .before in
-    let inside = kind .before .before in
+    let inside = kind .before .before .before in
     let at = inside .before in
     let start = at .before .before .before .before in
     let args = start .args in
@@ -54,7 +54,7 @@ loop-again c =
       turn (first .earlier3 .result) (second .earlier4 .result) (c .truth-by .result)
           (omega (arith, start .pre .0, inside .loop-test)) (omega (arith, start .pre .2, inside .loop-test))
           (first .earlier3 .ensures) (second .earlier4 .ensures)
-          (rw (kind .kind-in .ensures, a .earlier .ensures, b .earlier2 .ensures) at (c .truth-by .ensures)),
+          (rw (kind .as-question .ensures, kind .before .kind-in .ensures, a .earlier .ensures, b .earlier2 .ensures) at (c .truth-by .ensures)),
     )
 
 same-length : tie.Need-same-length Inv-loop μ-loop
@@ -74,6 +74,7 @@ truths-below-spec =
     loop-holds
     (λ c. search needs)
     (λ c. search needs)
+    (λ c κs. search needs)
     (λ c κs. search needs)
     (λ c. search needs)
     (λ c. search needs)

@@ -1,0 +1,77 @@
+-- Rows under new numbers: whatever comes from the rows that a row names is kept under any renaming that keeps what each row names (the letter's second demand).
+-- Striking a row is one such renaming.
+-- Assumes nothing.
+use mathlib.Core.Path.{_≡_, refl, sym, ap, ap₂, _∙_}
+use mathlib.Core.Bool.{Bool, true, cond}
+use mathlib.Core.List.{List}
+use Prim.Native.Nat.{ℕ, _<_}
+use lib.ListN.{getD}
+use Rattle.belnap.specs.declared.Decision.the-variants.{U}
+use Rattle.belnap.specs.Operators.{one, two}
+use Rattle.table.specs.declared.kinds.RowKind.the-variants.{Always, DenyIf, GrantIf, One, Two}
+use Rattle.table.specs.declared.kinds.Kind.{Kind}
+use Rattle.table.specs.declared.kinds.Kind.the-variants.{Row, Question}
+use Rattle.table.specs.declared.entries.Entry.{Entry}
+use Rattle.table.specs.Entries.{blank}
+use Rattle.table.specs.Renaming.{namesRow, renamed}
+use Rattle.decide.specs.Rows.{values, valueAt}
+use Rattle.decide.specs.Meaning.{decideBy, decides, decision}
+use Rattle.decide.proofs.RowByRow.{by-rows, before-there}
+
+-- a value that comes from those of the rows named, and from an entry's own numbers only where they name no row
+abbrev pub Comes : {A : Type 0} → (Entry → A → A → A) → Type 0
+Comes {A} f =
+    (new : ℕ → ℕ) (e : Entry) (x y u v : A) → (namesRow 0 e ≡ true → x ≡ u) → (namesRow 1 e ≡ true → y ≡ v) → f (renamed new e) x y ≡ f e u v
+
+pub decisions-come : (m : ℕ) → Comes (decides m)
+unfolding decideBy
+decisions-come m new e x y u v p q = go (e .kind) (e .a) (e .b) p q
+  where
+    go : (k : Kind) (a b : ℕ) → (namesRow 0 (record { kind = k; a = a; b = b }) ≡ true → x ≡ u) →
+        (namesRow 1 (record { kind = k; a = a; b = b }) ≡ true → y ≡ v) →
+        decides m (renamed new (record { kind = k; a = a; b = b })) x y ≡ decides m (record { kind = k; a = a; b = b }) u v
+    go (Row (Always w)) a b p q = refl
+    go (Row DenyIf) a b p q = refl
+    go (Row GrantIf) a b p q = refl
+    go (Row (One op)) a b p q = ap (one op) (p refl)
+    go (Row (Two op)) a b p q = ap₂ (two op) (p refl) (q refl)
+    go (Question k) a b p q = refl
+
+-- a row named by row i: it is kept, it is lower, and so it is under the new numbers
+pub record Named (new : ℕ → ℕ) (Kept : ℕ → Type 0) (i x : ℕ) : Type 0 where
+  pub kept : Kept x
+  pub lower : x < i
+  pub still : new x < new i
+
+-- row i stands under its new number, with the rows that it names under theirs
+pub record Stands (new : ℕ → ℕ) (Kept : ℕ → Type 0) (rows fresh : List Entry) (i : ℕ) : Type 0 where
+  pub there : getD fresh (new i) blank ≡ renamed new (getD rows i blank)
+  pub first : namesRow 0 (getD rows i blank) ≡ true → Named new Kept i (getD rows i blank .a)
+  pub second : namesRow 1 (getD rows i blank) ≡ true → Named new Kept i (getD rows i blank .b)
+
+-- rows under new numbers: each that is kept stands under its own
+abbrev pub Renames : (ℕ → ℕ) → (ℕ → Type 0) → List Entry → List Entry → Type 0
+Renames new Kept rows fresh = (i : ℕ) → Kept i → Stands new Kept rows fresh i
+
+module _ {new : ℕ → ℕ} {Kept : ℕ → Type 0} {rows fresh : List Entry} where
+  -- a row that stands has the value it had, if the lower rows that are kept have theirs; so a converter may replace single rows, and prove those by themselves
+  pub value-stands : {A : Type 0} (f : Entry → A → A → A) (z : A) → Comes f → (i : ℕ) → Stands new Kept rows fresh i →
+      ((x : ℕ) → x < i → Kept x → valueAt f z fresh (new x) ≡ valueAt f z rows x) → valueAt f z fresh (new i) ≡ valueAt f z rows i
+  unfolding valueAt
+  value-stands {A} f z comes i s ih =
+      let e = getD rows i blank in
+      let same : (x : ℕ) (b : Bool) → b ≡ true → Named new Kept i x → getD (values f z fresh (new i)) (cond b (new x) x) z ≡ getD (values f z rows i) x z =
+      λ x b t n.
+      ap (λ (b : Bool). getD (values f z fresh (new i)) (cond b (new x) x) z) t
+      ∙ before-there f z fresh (new i) (new x) (n .still) ∙ ih x (n .lower) (n .kept) ∙ sym (before-there f z rows i x (n .lower)) in
+      ap (λ (d : Entry). f d (getD (values f z fresh (new i)) (d .a) z) (getD (values f z fresh (new i)) (d .b) z)) (s .there)
+      ∙ comes new e _ _ _ _
+      (λ t. same (e .a) (namesRow 0 e) t (s .first t))
+      (λ t. same (e .b) (namesRow 1 e) t (s .second t))
+
+  pub value-kept : Renames new Kept rows fresh → {A : Type 0} (f : Entry → A → A → A) (z : A) → Comes f →
+      (i : ℕ) → Kept i → valueAt f z fresh (new i) ≡ valueAt f z rows i
+  value-kept r f z comes = by-rows (λ i. Kept i → valueAt f z fresh (new i) ≡ valueAt f z rows i) (λ i ih k. value-stands f z comes i (r i k) ih)
+
+  pub decision-kept : Renames new Kept rows fresh → (m i : ℕ) → Kept i → decision fresh m (new i) ≡ decision rows m i
+  decision-kept r m = value-kept r (decides m) U (decisions-come m)

@@ -1,0 +1,34 @@
+-- The sets of rows under new numbers are kept (the letter's second demand; decide/proofs/Renaming.antt).
+-- Assumes nothing.
+use mathlib.Core.Path.{_≡_, refl, ap, ap₂}
+use mathlib.Core.Bool.{true}
+use mathlib.Core.List.{List}
+use Prim.Native.Nat.{ℕ}
+use Rattle.belnap.specs.declared.Decision.the-variants.{U}
+use Rattle.belnap.specs.Operators.{one, two}
+use Rattle.table.specs.declared.kinds.RowKind.the-variants.{Always, DenyIf, GrantIf, One, Two}
+use Rattle.table.specs.declared.kinds.Kind.{Kind}
+use Rattle.table.specs.declared.kinds.Kind.the-variants.{Row, Question}
+use Rattle.table.specs.declared.entries.Entry.{Entry}
+use Rattle.table.specs.Renaming.{namesRow, renamed}
+use Rattle.decide.proofs.Renaming.{Comes, Renames, value-kept}
+use Rattle.possible.specs.Sets.{single, imageOne, imageTwo}
+use Rattle.possible.specs.Possible.{setBy, setOf, possible}
+
+sets-come : (known request : ℕ) → Comes (setOf known request)
+unfolding setBy
+sets-come known request new e x y u v p q = go (e .kind) (e .a) (e .b) p q
+  where
+    go : (k : Kind) (a b : ℕ) → (namesRow 0 (record { kind = k; a = a; b = b }) ≡ true → x ≡ u) →
+        (namesRow 1 (record { kind = k; a = a; b = b }) ≡ true → y ≡ v) →
+        setOf known request (renamed new (record { kind = k; a = a; b = b })) x y ≡ setOf known request (record { kind = k; a = a; b = b }) u v
+    go (Row (Always w)) a b p q = refl
+    go (Row DenyIf) a b p q = refl
+    go (Row GrantIf) a b p q = refl
+    go (Row (One op)) a b p q = ap (imageOne (one op)) (p refl)
+    go (Row (Two op)) a b p q = ap₂ (imageTwo (two op)) (p refl) (q refl)
+    go (Question k) a b p q = refl
+
+pub possible-kept : {new : ℕ → ℕ} {Kept : ℕ → Type 0} {rows fresh : List Entry} → Renames new Kept rows fresh → (known request i : ℕ) → Kept i →
+    possible fresh known request (new i) ≡ possible rows known request i
+possible-kept r known request = value-kept r (setOf known request) (single U) (sets-come known request)

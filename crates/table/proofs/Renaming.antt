@@ -1,0 +1,86 @@
+-- An entry with the rows that it names under new numbers: its size, its predicate, and that it keeps the rules where the new numbers do.
+-- Each law goes by what the numbers name, at the first place and at the second.
+-- Assumes nothing.
+use mathlib.Core.Path.{_≡_, refl, sym, ap₂, _∙_}
+use mathlib.Core.Bool.{Bool, true, false, cond, _&&_}
+use Prim.Native.Nat.{ℕ, _<_}
+use native.Mathlib.Omega.{arith}
+use lib.Dec.{ltb}
+use borrow.Author.Tests.{ltb-true, lt-ltb}
+use Rattle.belnap.proofs.Finite.{both-parts}
+use Rattle.table.specs.declared.kinds.Kind.{Kind}
+use Rattle.table.specs.declared.kinds.Names.{Names}
+use Rattle.table.specs.declared.kinds.Names.the-variants.{Nothing, Predicates, Rows, Questions}
+use Rattle.table.specs.declared.entries.Entry.{Entry}
+use Rattle.table.specs.declared.entries.Tally.{Tally}
+use Rattle.table.specs.Entries.{numbersOf, namesOf, sizeOf, usedBy, uses, limit, namedAt}
+use Rattle.table.specs.Renaming.{rowNumbers, namesRow, renamed}
+use Rattle.table.proofs.OneEntry.{size}
+use Rattle.table.proofs.Writing.{Sound}
+
+module _ (new : ℕ → ℕ) where
+  -- the size and the predicate stay
+  pub renamed-size : (e : Entry) → sizeOf (renamed new e) ≡ sizeOf e
+  renamed-size e = size (renamed new e) ∙ sym (size e)
+
+  pub renamed-uses : (e : Entry) → uses (renamed new e) ≡ uses e
+  renamed-uses e = go (namesOf e) (ltb 0 (numbersOf e)) (e .a)
+    where
+      go : (names : Names) (there : Bool) (x : ℕ) → usedBy names (cond (rowNumbers names && there) (new x) x) ≡ usedBy names x
+      go Nothing there x = refl
+      go Predicates there x = refl
+      go Rows there x = refl
+      go Questions there x = refl
+
+  -- one number: it is below its limit, and 0 where it is not there
+  number-named : (names : Names) (n i x : ℕ) (before after : Tally) → before .questions ≡ after .questions →
+      ((rowNumbers names && ltb i n) ≡ true → x < before .rows → new x < after .rows) →
+      namedAt n (limit names before) i x ≡ true → namedAt n (limit names after) i (cond (rowNumbers names && ltb i n) (new x) x) ≡ true
+  number-named Nothing n i x before after q f h = h
+  number-named Predicates n i x before after q f h = h
+  number-named Rows n i x before after q f h = go (ltb i n) f h
+    where
+      go : (there : Bool) → (there ≡ true → x < before .rows → new x < after .rows) → cond there (ltb x (before .rows)) true ≡ true →
+          cond there (ltb (cond there (new x) x) (after .rows)) true ≡ true
+      go true f h = lt-ltb _ _ (f refl (ltb-true _ _ h))
+      go false f h = refl
+  number-named Questions n i x before after q f h = rw q at h
+
+  number-tidy : (rows there : Bool) (x : ℕ) → x ≡ cond there x 0 → cond (rows && there) (new x) x ≡ cond there (cond (rows && there) (new x) x) 0
+  number-tidy rows true x h = refl
+  number-tidy true false x h = h
+  number-tidy false false x h = h
+
+  -- an entry that keeps the rules still does, if each row that it names is named under a number that is below the new limit
+  pub renamed-sound : (part : Kind → Bool) (before after : Tally) → before .questions ≡ after .questions → (e : Entry) →
+      (namesRow 0 e ≡ true → e .a < before .rows → new (e .a) < after .rows) → (namesRow 1 e ≡ true → e .b < before .rows → new (e .b) < after .rows) →
+      Sound part before e → Sound part after (renamed new e)
+  renamed-sound part before after q e f g h =
+      let n = numbersOf e in
+      let at = namedAt n (limit (namesOf e) before) in
+      let parts = both-parts (at 0 (e .a)) (at 1 (e .b)) (h .names) in
+      record {
+        in-part = h .in-part;
+        names = ap₂ _&&_ (number-named (namesOf e) n 0 (e .a) before after q f (parts .0)) (number-named (namesOf e) n 1 (e .b) before after q g (parts .1));
+        tidy = record {
+          first = number-tidy (rowNumbers (namesOf e)) (ltb 0 n) (e .a) (h .tidy .first);
+          second = number-tidy (rowNumbers (namesOf e)) (ltb 1 n) (e .b) (h .tidy .second);
+        };
+      }
+
+-- a row that an entry names is one that it may name
+named-below : (names : Names) (n i x : ℕ) (before : Tally) → (rowNumbers names && ltb i n) ≡ true → namedAt n (limit names before) i x ≡ true → x < before .rows
+named-below Nothing n i x before e h = absurd (let z : _≡_ {A = ℕ} 0 1 = cc in omega arith)
+named-below Predicates n i x before e h = absurd (let z : _≡_ {A = ℕ} 0 1 = cc in omega arith)
+named-below Rows n i x before e h = ltb-true _ _ (rw e at h)
+named-below Questions n i x before e h = absurd (let z : _≡_ {A = ℕ} 0 1 = cc in omega arith)
+
+module _ {part : Kind → Bool} {before : Tally} (e : Entry) (h : Sound part before e) where
+  abbrev at : ℕ → ℕ → Bool
+  at i x = namedAt (numbersOf e) (limit (namesOf e) before) i x
+
+  pub first-below : namesRow 0 e ≡ true → e .a < before .rows
+  first-below t = named-below (namesOf e) (numbersOf e) 0 (e .a) before t (both-parts (at 0 (e .a)) (at 1 (e .b)) (h .names) .0)
+
+  pub second-below : namesRow 1 e ≡ true → e .b < before .rows
+  second-below t = named-below (namesOf e) (numbersOf e) 1 (e .b) before t (both-parts (at 0 (e .a)) (at 1 (e .b)) (h .names) .1)

@@ -1,0 +1,54 @@
+-- What a table holds: its rows and its questions, how many there are of each, n, and its bytes (01, "The table, byte by byte").
+use Prim.Native.Nat.{ℕ, _≤_, max}
+use mathlib.Core.List.{List, [], _∷_, _++_}
+use lib.ListN.{length, getD}
+use Rattle.table.specs.declared.kinds.Kind.{Kind}
+use Rattle.table.specs.declared.kinds.Kind.the-variants.{Row, Question}
+use Rattle.table.specs.declared.entries.Entry.{Entry}
+use Rattle.table.specs.declared.entries.Tally.{Tally}
+use Rattle.table.specs.Entries.{tally, blank, uses, bytesOf}
+
+-- "Rows are numbered from 0 in order, questions from 0 separately."
+pub record Contents : Type 0 where
+  pub rows : List Entry
+  pub questions : List Entry
+
+abbrev pub none : Contents
+none = record { rows = []; questions = [] }
+
+-- so many rows and questions
+abbrev pub tallyOf : Contents → Tally
+tallyOf c = tally (length (c .rows)) (length (c .questions))
+
+-- with one entry more, by its kind
+abbrev pub withKind : Kind → Entry → Contents → Contents
+withKind (Row k) e c = record { rows = c .rows ++ (e ∷ []); questions = c .questions }
+withKind (Question k) e c = record { rows = c .rows; questions = c .questions ++ (e ∷ []) }
+
+abbrev pub withEntry : Contents → Entry → Contents
+withEntry c e = withKind (e .kind) e c
+
+-- "n is one more than the highest predicate that any row uses, and 0 if none does."
+unfoldable pub highest : List Entry → ℕ
+highest [] = 0
+highest (e ∷ es) = max (uses e) (highest es)
+
+abbrev pub predicates : Contents → ℕ
+predicates c = highest (c .rows)
+
+-- an n that covers the predicates of rows: each that a row uses is below it
+abbrev pub Covers : ℕ → List Entry → Type 0
+Covers n rows = (i : ℕ) → uses (getD rows i blank) ≤ n
+
+-- "A table is a run of entries with no header. … All rows come before all questions."
+abbrev pub entries : Contents → List Entry
+entries c = c .rows ++ c .questions
+
+-- the bytes of entries, one after the other
+unfoldable pub written : List Entry → List ℕ
+written [] = []
+written (e ∷ es) = bytesOf e ++ written es
+
+-- the bytes of a table
+abbrev pub encoded : Contents → List ℕ
+encoded c = written (entries c)

@@ -1,0 +1,62 @@
+-- The refusals by their numbers (01, "When we say no").
+use Prim.Native.Nat.{ℕ}
+use mathlib.Core.Bool.{Bool, false, cond, _||_}
+use mathlib.Core.List.{List, [], _∷_}
+use lib.Dec.{eqb}
+
+-- "kind not listed"
+abbrev pub unlisted : ℕ
+unlisted = 1
+
+-- "the body is cut short"
+abbrev pub cutShort : ℕ
+cutShort = 2
+
+-- "predicate above 23"
+abbrev pub predicateTooHigh : ℕ
+predicateTooHigh = 3
+
+-- "a number that may not be named there"
+abbrev pub notToBeNamed : ℕ
+notToBeNamed = 4
+
+-- "a row after a question"
+abbrev pub rowAfterQuestion : ℕ
+rowAfterQuestion = 5
+
+-- "a 257th row"
+abbrev pub tooManyRows : ℕ
+tooManyRows = 6
+
+-- "a 65th question"
+abbrev pub tooManyQuestions : ℕ
+tooManyQuestions = 7
+
+-- "the row or question asked for is not there"
+abbrev pub notThere : ℕ
+notThere = 8
+
+-- "the row to strike is named by a row or question"
+abbrev pub stillNamed : ℕ
+stillNamed = 9
+
+-- "a mask bit above 23, or yes without known"
+abbrev pub badMask : ℕ
+badMask = 10
+
+-- "the output is shorter than the bytes to write"
+abbrev pub outputTooShort : ℕ
+outputTooShort = 11
+
+-- 8 where what was asked for is missing; 0 where it is there
+abbrev pub ifMissing : Bool → ℕ
+ifMissing missing = cond missing notThere 0
+
+-- those of reading, in the order in which they are looked for at an entry
+abbrev pub ofReading : List ℕ
+ofReading = unlisted ∷ rowAfterQuestion ∷ tooManyRows ∷ tooManyQuestions ∷ cutShort ∷ predicateTooHigh ∷ notToBeNamed ∷ []
+
+-- whether a number stands in a list
+abbrev pub isAmong : List ℕ → ℕ → Bool
+isAmong [] n = false
+isAmong (m ∷ more) n = eqb n m || isAmong more n
