@@ -6,7 +6,8 @@ use mathlib.Core.Path.{_≡_, refl}
 use Rattle.belnap.specs.declared.Decision.{Decision}
 use Rattle.belnap.specs.declared.Decision.the-variants.{U, D, G, C}
 use Rattle.belnap.specs.declared.orders.Order.the-variants.{Truth}
-use Rattle.belnap.specs.Operators.{negation, conflation, closedDefault, openDefault, truthMeet, truthJoin, knowledgeMeet, knowledgeJoin, implication, guard, override}
+use Rattle.belnap.specs.Operators.{negation, conflation, closedDefault, openDefault, truthMeet, truthJoin}
+use Rattle.belnap.specs.Operators.{knowledgeMeet, knowledgeJoin, implication, guard, override}
 use Rattle.belnap.proofs.Finite.{one-decision}
 
 -- p ∨ q = ¬(¬p ∧ ¬q)

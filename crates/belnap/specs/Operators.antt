@@ -7,7 +7,8 @@ use Rattle.belnap.specs.declared.Decision.the-variants.{U, D, G, C}
 use Rattle.belnap.specs.declared.operators.OneRow.{OneRow}
 use Rattle.belnap.specs.declared.operators.OneRow.the-variants.{Negation, Conflation, ClosedDefault, OpenDefault}
 use Rattle.belnap.specs.declared.operators.TwoRow.{TwoRow}
-use Rattle.belnap.specs.declared.operators.TwoRow.the-variants.{TruthMeet, TruthJoin, KnowledgeMeet, KnowledgeJoin, Implication, Guard, OverrideU, OverrideD, OverrideG, OverrideC}
+use Rattle.belnap.specs.declared.operators.TwoRow.the-variants.{TruthMeet, TruthJoin, KnowledgeMeet, KnowledgeJoin, Implication}
+use Rattle.belnap.specs.declared.operators.TwoRow.the-variants.{Guard, OverrideU, OverrideD, OverrideG, OverrideC}
 
 -- "Negation exchanges the claims."
 abbrev pub negation : Decision → Decision

@@ -2,7 +2,8 @@
 // the outer match goes by the first decision, the inner one by the second.
 use crate::Decision;
 ghost use mathlib.Core.Path.{_≡_};
-ghost use Rattle.belnap.specs.Operators.{negation as negated, conflation as conflated, closedDefault, openDefault, truthMeet, truthJoin, knowledgeMeet, knowledgeJoin, implication as implied, guard as guarded, override, one, two};
+ghost use Rattle.belnap.specs.Operators.{negation as negated, conflation as conflated, closedDefault, openDefault, truthMeet, truthJoin, knowledgeMeet};
+ghost use Rattle.belnap.specs.Operators.{knowledgeJoin, implication as implied, guard as guarded, override, one, two};
 
 // The one-row operators by name.
 pub enum OneRow {

@@ -1,6 +1,6 @@
--- The letter's second demand, of the services' answers: a row decides by its kind's rule, and by the predicates that it reaches alone; a question holds exactly if
--- no request breaks it, and else the first request that does is shown; what striking wrote, given to the services again, brings the old answers under the new
--- numbers.
+-- The letter's second demand, of the services' answers: a row decides by its kind's rule, and by the predicates that it reaches alone; a question holds
+-- exactly if no request breaks it, and else the first request that does is shown; what striking wrote, given to the services again, brings the old answers
+-- under the new numbers.
 -- Assumes nothing.
 use mathlib.Core.Path.{_≡_, refl, sym, ap, _∙_}
 use mathlib.Core.Bool.{true}

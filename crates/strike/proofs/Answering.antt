@@ -76,7 +76,8 @@ module _ {s : List ℕ} {got : Reading} (o : Opened s got) where
     pub bytes-left : sizeOf (getD (got .table .rows) r blank) + length (struckBytes r (contentsIn (got .table))) ≡ length s
     bytes-left =
         let t = got .table in
-        let all : length (written (held t)) ≡ length s = ap (λ (c : Contents). length (encoded c)) open-contents ∙ ap length (of-accepted s (o .contents) (o .is) .1) in
+        let all : length (written (held t)) ≡ length s =
+        ap (λ (c : Contents). length (encoded c)) open-contents ∙ ap length (of-accepted s (o .contents) (o .is) .1) in
         let own : sizeOf (getD (held t) r blank) ≡ sizeOf (getD (t .rows) r blank) = ap sizeOf (held-row open-fits r h) in
         omega (arith, all, own, ap length (struck-held open-fits r h), closed-bytes r (held t) (omega (arith, held-length open-fits)))
 

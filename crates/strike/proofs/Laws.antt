@@ -16,7 +16,8 @@ use Rattle.table.specs.Reading.{reading}
 use Rattle.table.proofs.Writing.{Each, each-get, each-of, Whole, of-accepted, whole-accepted, RowAt, QuestionAt}
 use Rattle.strike.specs.Strike.{old, lowered, without, closedUp, struck, struckBytes, names, namedBy, struckAnswer, outputBy, struckOutput}
 use Rattle.strike.proofs.Renumbering.{lower-lt, old-above, old-lt, without-append}
-use Rattle.strike.proofs.Closing.{lowered-sound, closed-at, lowered-at, length-closed, closed-highest, named-none, named-append, named-nowhere, unnamed-above}
+use Rattle.strike.proofs.Closing.{lowered-sound, closed-at, lowered-at, length-closed, closed-highest}
+use Rattle.strike.proofs.Closing.{named-none, named-append, named-nowhere, unnamed-above}
 
 -- row j is the row with its old number, its numbers lowered; question j is question j, its row numbers lowered
 pub struck-at : (r : ℕ) (c : Contents) (j : ℕ) → getD (struck r c .rows) j blank ≡ lowered r (getD (c .rows) (old r j) blank)

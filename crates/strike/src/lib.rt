@@ -111,7 +111,8 @@ fn strike_refusal(named: bool, short: bool) -> u8
 
 // The table without row `row`, over the front of the output; nothing is written before every refusal is ruled out.
 pub fn strike(table: &[u8], row: u32, out: &mut [u8]) -> Struck
-    ensures { λ r. ⌜ (r ≡ shownStruck (struckAnswer (reading (now (table .entry))) row (length (now (out .entry))))) × (now (out .exit) ≡ struckOutput (reading (now (table .entry))) row (now (out .entry))) ⌝ }
+    ensures answer { λ r. ⌜ r ≡ shownStruck (struckAnswer (reading (now (table .entry))) row (length (now (out .entry)))) ⌝ }
+    ensures output { λ r. ⌜ now (out .exit) ≡ struckOutput (reading (now (table .entry))) row (now (out .entry)) ⌝ }
 {
     let got = table::read(table);
     let outcome = got.outcome;

@@ -11,7 +11,8 @@ use Rattle.belnap.specs.Decisions.{coded}
 use Rattle.belnap.proofs.Finite.{both-parts, never}
 use Rattle.belnap.specs.declared.Decision.the-variants.{U, D, G, C}
 use Rattle.belnap.specs.declared.operators.OneRow.the-variants.{Negation, Conflation, ClosedDefault, OpenDefault}
-use Rattle.belnap.specs.declared.operators.TwoRow.the-variants.{TruthMeet, TruthJoin, KnowledgeMeet, KnowledgeJoin, Implication, Guard, OverrideU, OverrideD, OverrideG, OverrideC}
+use Rattle.belnap.specs.declared.operators.TwoRow.the-variants.{TruthMeet, TruthJoin, KnowledgeMeet, KnowledgeJoin, Implication}
+use Rattle.belnap.specs.declared.operators.TwoRow.the-variants.{Guard, OverrideU, OverrideD, OverrideG, OverrideC}
 use Rattle.belnap.specs.declared.orders.Order.the-variants.{Truth, Knowledge}
 use Rattle.table.specs.declared.kinds.Kind.{Kind}
 use Rattle.table.specs.declared.kinds.Kind.the-variants.{Row, Question}

@@ -7,7 +7,8 @@ use Rattle.belnap.specs.declared.Decision.the-variants.{U}
 use Rattle.belnap.specs.declared.operators.OneRow.{OneRow}
 use Rattle.belnap.specs.declared.operators.OneRow.the-variants.{Negation, Conflation, ClosedDefault, OpenDefault}
 use Rattle.belnap.specs.declared.operators.TwoRow.{TwoRow}
-use Rattle.belnap.specs.declared.operators.TwoRow.the-variants.{TruthMeet, TruthJoin, KnowledgeMeet, KnowledgeJoin, Implication, Guard, OverrideU, OverrideD, OverrideG, OverrideC}
+use Rattle.belnap.specs.declared.operators.TwoRow.the-variants.{TruthMeet, TruthJoin, KnowledgeMeet, KnowledgeJoin, Implication}
+use Rattle.belnap.specs.declared.operators.TwoRow.the-variants.{Guard, OverrideU, OverrideD, OverrideG, OverrideC}
 use Rattle.belnap.specs.declared.orders.Order.{Order}
 use Rattle.belnap.specs.declared.orders.Order.the-variants.{Truth, Knowledge}
 use Rattle.belnap.specs.Decisions.{code, everyDecision}

@@ -11,7 +11,8 @@ ghost use lib.ListN.{length, getD, drop};
 ghost use Rattle.table.specs.Entries.{numberLimit, sizeLimit, bodySize, sizeOf, uses, bytesOf, onto};
 ghost use Rattle.table.specs.Said.{refusal};
 ghost use Rattle.table.specs.Renaming.{namesRow};
-ghost use Rattle.table.specs.Entries.{oneMore, noRoom, limit, misnamed, numberAt, namedAt, misnaming, bodyOf, decoded, permitted, judged, stepOf, shownStep};
+ghost use Rattle.table.specs.Entries.{oneMore, noRoom, limit, misnamed, numberAt, namedAt, misnaming};
+ghost use Rattle.table.specs.Entries.{bodyOf, decoded, permitted, judged, stepOf, shownStep};
 
 // A row or a question: its kind, and its numbers; 0 for one that its kind has not.
 pub struct Entry {

@@ -208,8 +208,8 @@ module _ (rows questions : List Entry) (n : ℕ) (covers : Covers n rows) (j : �
   pub nothing-holds : (c : ℕ) → walk rows questions n j ≡ nothing c → (o : ℕ) → trueAt o ≡ true
   nothing-holds c e o = (rw e at said) o (λ p l. absurd (omega arith))
 
-  -- where it finds a request, that one breaks the question, has no bit from n up, and every request before it keeps the question: over the n predicates, and so over
-  -- any greater number of them
+  -- where it finds a request, that one breaks the question, has no bit from n up, and every request before it keeps the question: over the n predicates,
+  -- and so over any greater number of them
   pub breaking-first : (m c : ℕ) → walk rows questions n j ≡ breaking m c →
       (trueAt m ≡ false) × (m < 2 ^ n) × ((more o : ℕ) → comesBefore (n + more) o m ≡ true → trueAt o ≡ true)
   breaking-first m c e =
