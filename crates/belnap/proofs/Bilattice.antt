@@ -6,7 +6,7 @@ use Rattle.belnap.specs.declared.Decision.{Decision}
 use Rattle.belnap.specs.declared.orders.Order.{Order}
 use Rattle.belnap.specs.declared.orders.Order.the-variants.{Truth, Knowledge}
 use Rattle.belnap.specs.Decisions.{same}
-use Rattle.belnap.specs.Operators.{negation, conflation, truthMeet, truthJoin, knowledgeMeet, knowledgeJoin}
+use Rattle.belnap.specs.Lattice.{negation, conflation, truthMeet, truthJoin, knowledgeMeet, knowledgeJoin}
 use Rattle.belnap.specs.Orders.{onlyIf, atOrBelow}
 use Rattle.belnap.proofs.Finite.{in-order, everywhere, law, one-outcome, one-decision}
 

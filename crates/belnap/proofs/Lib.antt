@@ -2,5 +2,4 @@
 pub mod Finite
 pub mod Codes
 pub mod Bilattice
-pub mod Formulas
 pub mod Unique

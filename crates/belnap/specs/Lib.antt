@@ -1,5 +1,5 @@
--- What the promises of this crate mean: the four decisions, the operators and the two orders.
+-- What the promises of this crate mean: the four decisions, the two orders, and the meet, join and negation of each.
 pub mod Decisions
-pub mod Operators
+pub mod Lattice
 pub mod Orders
 pub mod One

@@ -1,6 +1,6 @@
 // The four decisions of the rule desk and their codes. What each claims is defined in specs/Decisions.antt.
-// The operators over them, and the names of the two orders, stand in the modules below.
-pub mod operators;
+// The names of the two orders, and the meet, join and negation of each, stand in the modules below.
+pub mod lattice;
 pub mod orders;
 
 ghost use mathlib.Core.Path.{_≡_};

@@ -9,15 +9,15 @@ use lib.ListN.{getD}
 use borrow.Author.Tests.{eqb-true, eq-eqb}
 use Rattle.belnap.specs.declared.Decision.{Decision}
 use Rattle.belnap.specs.declared.Decision.the-variants.{U}
-use Rattle.belnap.specs.Operators.{one, two}
+use Rattle.operators.specs.Operators.{one, two}
 use Rattle.belnap.proofs.Finite.{or-left, or-right, or-part}
-use Rattle.table.specs.declared.kinds.RowKind.{RowKind}
-use Rattle.table.specs.declared.kinds.RowKind.the-variants.{Always, DenyIf, GrantIf, One, Two}
-use Rattle.table.specs.declared.kinds.Kind.the-variants.{Row}
-use Rattle.table.specs.declared.entries.Entry.{Entry}
-use Rattle.table.specs.Kinds.{formOf, asRow}
-use Rattle.table.specs.Entries.{blank, usedBy}
-use Rattle.table.proofs.Numbers.{by-order}
+use Rattle.entries.specs.declared.kinds.RowKind.{RowKind}
+use Rattle.entries.specs.declared.kinds.RowKind.the-variants.{Always, DenyIf, GrantIf, One, Two}
+use Rattle.entries.specs.declared.kinds.Kind.the-variants.{Row}
+use Rattle.entries.specs.declared.Entry.{Entry}
+use Rattle.entries.specs.Kinds.{formOf, asRow}
+use Rattle.entries.specs.Entries.{blank, usedBy}
+use Rattle.entries.proofs.Numbers.{by-order}
 use Rattle.table.specs.Contents.{Covers}
 use Rattle.table.proofs.Laws.{row-uses}
 use Rattle.decide.specs.Rows.{values, valueAt}

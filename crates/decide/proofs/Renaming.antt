@@ -7,13 +7,13 @@ use mathlib.Core.List.{List}
 use Prim.Native.Nat.{ℕ, _<_}
 use lib.ListN.{getD}
 use Rattle.belnap.specs.declared.Decision.the-variants.{U}
-use Rattle.belnap.specs.Operators.{one, two}
-use Rattle.table.specs.declared.kinds.RowKind.the-variants.{Always, DenyIf, GrantIf, One, Two}
-use Rattle.table.specs.declared.kinds.Kind.{Kind}
-use Rattle.table.specs.declared.kinds.Kind.the-variants.{Row, Question}
-use Rattle.table.specs.declared.entries.Entry.{Entry}
-use Rattle.table.specs.Entries.{blank}
-use Rattle.table.specs.Renaming.{namesRow, renamed}
+use Rattle.operators.specs.Operators.{one, two}
+use Rattle.entries.specs.declared.kinds.RowKind.the-variants.{Always, DenyIf, GrantIf, One, Two}
+use Rattle.entries.specs.declared.kinds.Kind.{Kind}
+use Rattle.entries.specs.declared.kinds.Kind.the-variants.{Row, Question}
+use Rattle.entries.specs.declared.Entry.{Entry}
+use Rattle.entries.specs.Entries.{blank}
+use Rattle.entries.specs.Renaming.{namesRow, renamed}
 use Rattle.decide.specs.Rows.{values, valueAt}
 use Rattle.decide.specs.Meaning.{decideBy, decides, decision}
 use Rattle.decide.proofs.RowByRow.{by-rows, before-there}

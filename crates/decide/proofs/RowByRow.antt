@@ -8,10 +8,10 @@ use native.Mathlib.Omega.{arith}
 use native.Mathlib.Numerals.{add-one}
 use lib.ListN.{length, getD, take, drop, set, length-append, length-map, List·getD-append, List·getD-eq-default, List·getD-map}
 use lib.Seq.{getD-at, take-at, set-at, drop-cons}
-use Rattle.table.specs.declared.entries.Entry.{Entry}
-use Rattle.table.specs.Entries.{blank}
+use Rattle.entries.specs.declared.Entry.{Entry}
+use Rattle.entries.specs.Entries.{blank}
 use Rattle.table.specs.Reading.{padded}
-use Rattle.table.proofs.Numbers.{by-order}
+use Rattle.entries.proofs.Numbers.{by-order}
 use Rattle.table.proofs.Padding.{padded-at, padded-more}
 use Rattle.decide.specs.Rows.{valueBy, values, valueAt}
 

@@ -9,18 +9,19 @@ use lib.Dec.{ltb}
 use borrow.Author.Tests.{ltb-true}
 use Rattle.belnap.specs.declared.Decision.{Decision}
 use Rattle.belnap.specs.declared.Decision.the-variants.{U}
-use Rattle.belnap.specs.Operators.{one, two}
+use Rattle.operators.specs.Operators.{one, two}
 use Rattle.belnap.proofs.Finite.{both-parts}
-use Rattle.table.specs.declared.kinds.RowKind.{RowKind}
-use Rattle.table.specs.declared.kinds.RowKind.the-variants.{Always, DenyIf, GrantIf, One, Two}
-use Rattle.table.specs.declared.kinds.Kind.{Kind}
-use Rattle.table.specs.declared.kinds.Kind.the-variants.{Row}
-use Rattle.table.specs.Said.{answered}
-use Rattle.table.specs.Kinds.{asRow}
-use Rattle.table.specs.Entries.{tally, blank, named}
+use Rattle.entries.specs.declared.kinds.RowKind.{RowKind}
+use Rattle.entries.specs.declared.kinds.RowKind.the-variants.{Always, DenyIf, GrantIf, One, Two}
+use Rattle.entries.specs.declared.kinds.Kind.{Kind}
+use Rattle.entries.specs.declared.kinds.Kind.the-variants.{Row}
+use Rattle.entries.specs.Said.{answered}
+use Rattle.entries.specs.Kinds.{asRow}
+use Rattle.entries.specs.Entries.{blank}
+use Rattle.table.specs.Steps.{tally, named}
 use Rattle.table.specs.Contents.{Contents}
 use Rattle.table.specs.Reading.{reading}
-use Rattle.table.proofs.KindTable.{is-row}
+use Rattle.entries.proofs.KindTable.{is-row}
 use Rattle.table.proofs.Laws.{row-sound}
 use Rattle.decide.specs.Rows.{valueAt}
 use Rattle.decide.specs.Meaning.{decideBy, decides, decision}

@@ -5,12 +5,12 @@ use mathlib.Core.List.{List}
 use lib.Dec.{eqb, ltb}
 use Rattle.belnap.specs.declared.Decision.{Decision}
 use Rattle.belnap.specs.declared.Decision.the-variants.{U, D, G}
-use Rattle.belnap.specs.Operators.{one, two}
-use Rattle.table.specs.declared.kinds.RowKind.{RowKind}
-use Rattle.table.specs.declared.kinds.RowKind.the-variants.{Always, DenyIf, GrantIf, One, Two}
-use Rattle.table.specs.declared.entries.Entry.{Entry}
-use Rattle.table.specs.Kinds.{asRow}
-use Rattle.table.specs.Entries.{rowLimit}
+use Rattle.operators.specs.Operators.{one, two}
+use Rattle.entries.specs.declared.kinds.RowKind.{RowKind}
+use Rattle.entries.specs.declared.kinds.RowKind.the-variants.{Always, DenyIf, GrantIf, One, Two}
+use Rattle.entries.specs.declared.Entry.{Entry}
+use Rattle.entries.specs.Kinds.{asRow}
+use Rattle.table.specs.Steps.{rowLimit}
 use Rattle.decide.specs.Rows.{valueAt}
 
 -- "predicate i is bit i"

@@ -2,8 +2,8 @@
 use Prim.Native.Nat.{ℕ, zero, suc}
 use mathlib.Core.List.{List, [], _∷_, _++_}
 use lib.ListN.{getD}
-use Rattle.table.specs.declared.entries.Entry.{Entry}
-use Rattle.table.specs.Entries.{blank}
+use Rattle.entries.specs.declared.Entry.{Entry}
+use Rattle.entries.specs.Entries.{blank}
 
 -- "A row may name only rows with a lower number": an entry's value by the values before it; z where there is none
 abbrev pub valueBy : {A : Type 0} → (Entry → A → A → A) → A → Entry → List A → A

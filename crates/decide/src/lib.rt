@@ -1,13 +1,12 @@
 // What a row decides at a complete request.
 use belnap::Decision;
+use entries::kinds;
+use entries::kinds::RowKind;
 use table::Table;
-use table::entries;
-use table::kinds;
-use table::kinds::RowKind;
 ghost use mathlib.Core.Path.{_≡_};
 ghost use Prim.Native.Nat.{_≤_};
 ghost use Rattle.belnap.specs.declared.Decision.the-variants.{U};
-ghost use Rattle.table.specs.Entries.{rowLimit};
+ghost use Rattle.table.specs.Steps.{rowLimit};
 ghost use Rattle.table.specs.Reading.{padded};
 ghost use Rattle.decide.specs.Rows.{values};
 ghost use Rattle.decide.specs.Meaning.{bit, decideBy, decides, decisionIn};
@@ -38,8 +37,8 @@ fn decide_by(kind: RowKind, predicate: u8, request: u32, x: Decision, y: Decisio
         } else {
             Decision::U
         },
-        RowKind::One(op) => belnap::operators::apply_one(op, x),
-        RowKind::Two(op) => belnap::operators::apply_two(op, x, y),
+        RowKind::One(op) => operators::apply_one(op, x),
+        RowKind::Two(op) => operators::apply_two(op, x, y),
     }
 }
 

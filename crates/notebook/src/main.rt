@@ -1,7 +1,6 @@
 // Runs every case of the old desk's notebook (01) that is not marked P, through the services, and prints each with what came back;
 // then takes rows out of tables, each as a part of the table, or with the companion's refusal.
 use libc::STDOUT_FILENO;
-use table::lookup;
 
 // Table A; question 2 asks if row 2 is free of conflict.
 const A: [u8; 22] = [

@@ -8,8 +8,8 @@ use native.Mathlib.Omega.{arith}
 use lib.ListN.{length}
 use lib.Dec.{leb}
 use borrow.Author.Tests.{leb-false, lt-leb}
-use Rattle.table.specs.declared.refusals.Refusal.{Refusal}
-use Rattle.table.specs.Said.{Said, answered, refusing, refusal, andThen, unless}
+use Rattle.entries.specs.declared.refusals.Refusal.{Refusal}
+use Rattle.entries.specs.Said.{Said, answered, refusing, refusal, andThen, unless}
 use Rattle.table.specs.Contents.{Contents}
 use Rattle.table.specs.Reading.{reading}
 use Rattle.decide.specs.Meaning.{decision}

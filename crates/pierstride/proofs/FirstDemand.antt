@@ -10,12 +10,12 @@ use native.Mathlib.Omega.{arith}
 use lib.ListN.{length}
 use lib.Dec.{leb}
 use Rattle.belnap.proofs.Finite.{never}
-use Rattle.table.specs.declared.refusals.Refusal.{Refusal}
-use Rattle.table.specs.Refusals.{notThere, badMask, ifMissing, isAmong}
-use Rattle.table.specs.Said.{Said, answered, refusing, andThen, unless}
+use Rattle.entries.specs.declared.refusals.Refusal.{Refusal}
+use Rattle.entries.specs.Refusals.{notThere, badMask, ifMissing, isAmong}
+use Rattle.entries.specs.Said.{Said, answered, refusing, andThen, unless}
 use Rattle.table.specs.Contents.{Contents}
 use Rattle.table.specs.Reading.{reading}
-use Rattle.table.specs.Lookup.{placeOf}
+use Rattle.lookup.specs.Lookup.{placeOf}
 use Rattle.table.proofs.Laws.{refused-within}
 use Rattle.walk.specs.declared.Reply.{Reply}
 use Rattle.walk.specs.declared.Reply.the-variants.{Holds, Fails, Unfinished}

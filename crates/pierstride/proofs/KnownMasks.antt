@@ -6,7 +6,7 @@ use Prim.Native.Nat.{ℕ, zero, suc, _+_, _<_}
 use native.Mathlib.Omega.{arith}
 use native.Mathlib.Numerals.{add-one}
 use Rattle.belnap.specs.Orders.{onlyIf}
-use Rattle.table.proofs.Numbers.{by-order}
+use Rattle.entries.proofs.Numbers.{by-order}
 use Rattle.decide.specs.Meaning.{bit}
 use Rattle.pierstride.specs.Masks.{knownBelow}
 

@@ -14,12 +14,12 @@ use Rattle.belnap.specs.declared.Decision.{Decision}
 use Rattle.belnap.specs.Decisions.{code, coded}
 use Rattle.belnap.proofs.Codes.{coded-code}
 use Rattle.belnap.proofs.Finite.{never}
-use Rattle.table.specs.Said.{answered}
-use Rattle.table.specs.Kinds.{asRow}
-use Rattle.table.specs.Entries.{blank}
+use Rattle.entries.specs.Said.{answered}
+use Rattle.entries.specs.Kinds.{asRow}
+use Rattle.entries.specs.Entries.{blank}
 use Rattle.table.specs.Contents.{Contents, predicates}
 use Rattle.table.specs.Reading.{reading}
-use Rattle.table.proofs.Numbers.{by-order}
+use Rattle.entries.proofs.Numbers.{by-order}
 use Rattle.table.proofs.Laws.{covered}
 use Rattle.table.specs.Whole.{Whole}
 use Rattle.table.proofs.Writing.{of-accepted}

@@ -10,16 +10,17 @@ use lib.Dec.{leb}
 use borrow.Author.Tests.{lt-ltb, le-leb}
 use Rattle.belnap.specs.declared.Decision.{Decision}
 use Rattle.belnap.specs.declared.Decision.the-variants.{U}
-use Rattle.table.specs.declared.refusals.Refusal.{Refusal}
+use Rattle.entries.specs.declared.refusals.Refusal.{Refusal}
 use Rattle.table.specs.declared.Table.{Table}
 use Rattle.table.specs.declared.Reading.{Reading}
-use Rattle.table.specs.Refusals.{notThere}
-use Rattle.table.specs.Said.{Said, answered, refusing, refusal, andThen, unless}
-use Rattle.table.specs.Entries.{blank, predicateLimit, rowLimit, questionLimit}
+use Rattle.entries.specs.Refusals.{notThere}
+use Rattle.entries.specs.Said.{Said, answered, refusing, refusal, andThen, unless}
+use Rattle.entries.specs.Entries.{blank}
+use Rattle.table.specs.Steps.{predicateLimit, rowLimit, questionLimit}
 use Rattle.table.specs.Contents.{Contents, predicates}
 use Rattle.table.specs.Reading.{reading, tableOf}
-use Rattle.table.proofs.Numbers.{by-order}
-use Rattle.table.proofs.Saying.{unless-none, unless-some}
+use Rattle.entries.proofs.Numbers.{by-order}
+use Rattle.entries.proofs.Saying.{unless-none, unless-some}
 use Rattle.table.proofs.Laws.{limits}
 use Rattle.table.proofs.Opening.{Opened}
 use Rattle.table.proofs.Padding.{padded-at}

@@ -14,12 +14,12 @@ use Rattle.belnap.specs.declared.Decision.{Decision}
 use Rattle.belnap.specs.Decisions.{code, coded}
 use Rattle.belnap.proofs.Codes.{code-coded}
 use Rattle.belnap.proofs.Finite.{never}
-use Rattle.table.specs.Said.{Said, answered, refusing, andThen, unless}
-use Rattle.table.specs.Entries.{predicateLimit}
+use Rattle.entries.specs.Said.{Said, answered, refusing, andThen, unless}
+use Rattle.table.specs.Steps.{predicateLimit}
 use Rattle.table.specs.Contents.{Contents, predicates}
 use Rattle.table.specs.Reading.{reading}
 use Rattle.table.proofs.Laws.{covered}
-use Rattle.table.proofs.Numbers.{by-order}
+use Rattle.entries.proofs.Numbers.{by-order}
 use Rattle.decide.specs.Meaning.{bit, decision}
 use Rattle.decide.specs.Requests.{Fills, Learns, AllKnown}
 use Rattle.possible.specs.Sets.{decisions, mask}

@@ -5,8 +5,8 @@ use mathlib.Core.Bool.{true, false}
 use mathlib.Core.List.{List, [], _∷_}
 use mathlib.Core.Logic.{_⊎_}
 use lib.ListN.{length}
-use Rattle.table.specs.Refusals.{notThere, stillNamed, badMask, outputTooShort, ofReading, isAmong}
-use Rattle.table.specs.Said.{Said, answered, refusing, refusal}
+use Rattle.entries.specs.Refusals.{notThere, stillNamed, badMask, outputTooShort, ofReading, isAmong}
+use Rattle.entries.specs.Said.{Said, answered, refusing, refusal}
 use Rattle.table.specs.Contents.{Contents}
 use Rattle.walk.specs.Questions.{truth}
 use Rattle.walk.specs.Walk.{visits}

@@ -3,7 +3,7 @@ use Prim.Native.Nat.{ℕ, zero, suc, _^_}
 use mathlib.Core.Bool.{Bool, true, not, _&&_, _||_}
 use lib.Dec.{leb}
 use Rattle.belnap.specs.Orders.{onlyIf}
-use Rattle.table.specs.Entries.{predicateLimit}
+use Rattle.table.specs.Steps.{predicateLimit}
 use Rattle.decide.specs.Meaning.{bit}
 
 -- a mask bit above 23

@@ -7,12 +7,12 @@ use lib.ListN.{length}
 use lib.Dec.{leb}
 use Rattle.belnap.specs.declared.Decision.{Decision}
 use Rattle.belnap.specs.Decisions.{code}
-use Rattle.table.specs.declared.lookup.Part.{Part}
-use Rattle.table.specs.Refusals.{notThere, badMask}
-use Rattle.table.specs.Said.{Said, answered, refusing, andThen, unless}
+use Rattle.lookup.specs.declared.Part.{Part}
+use Rattle.entries.specs.Refusals.{notThere, badMask}
+use Rattle.entries.specs.Said.{Said, answered, refusing, andThen, unless}
 use Rattle.table.specs.Contents.{Contents, predicates}
 use Rattle.table.specs.Reading.{reading}
-use Rattle.table.specs.Lookup.{placeOf}
+use Rattle.lookup.specs.Lookup.{placeOf}
 use Rattle.decide.specs.Meaning.{decision}
 use Rattle.possible.specs.Sets.{decisions, Set, mask}
 use Rattle.possible.specs.Possible.{possible}

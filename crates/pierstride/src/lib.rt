@@ -1,16 +1,16 @@
 // The services for the catalogue server: each takes the table's bytes, reads them first, and answers a struct of plain numbers.
 // `refusal` is 01's number, 0 for none, and `place` its place; a field that says nothing in a case is 0.
+use entries::refusals;
+use entries::refusals::Refusal;
+use lookup::Place;
 use strike::Struck;
 use table::Outcome;
 use table::Table;
-use table::lookup::Place;
-use table::refusals;
-use table::refusals::Refusal;
 use walk::Reply;
 ghost use mathlib.Core.Path.{_≡_};
 ghost use Rattle.pierstride.specs.Masks.{beyond, knownBelow, badMasks};
-ghost use Rattle.table.specs.Said.{refusing};
-ghost use Rattle.table.specs.Entries.{predicateLimit};
+ghost use Rattle.entries.specs.Said.{refusing};
+ghost use Rattle.table.specs.Steps.{predicateLimit};
 ghost use Rattle.pierstride.specs.Services.{askedWrongly, countsOf, decidedOf, remainingOf, verdictOf, repliedOf};
 ghost use Rattle.pierstride.specs.Services.{readAnswer, decideAnswer, possibleAnswer, verdictAnswer, entryAnswer, strikeAnswer, strikeOutput};
 
@@ -289,7 +289,7 @@ pub extern "C" fn pier_verdict(table: &[u8], question: u32, budget: u32) -> Verd
 pub extern "C" fn pier_entry(table: &[u8], row: u32) -> Located
     ensures { λ r. ⌜ r ≡ entryAnswer (now (table .entry)) row ⌝ }
 {
-    let found = table::lookup::find(table, row);
+    let found = lookup::find(table, row);
     match found {
         Place::At(part) => Located {
             refusal: 0,

@@ -9,14 +9,14 @@ use native.Mathlib.Omega.{arith}
 use lib.ListN.{getD}
 use Rattle.belnap.specs.declared.Decision.{Decision}
 use Rattle.belnap.specs.declared.Decision.the-variants.{U, D, G}
-use Rattle.belnap.specs.Operators.{one, two}
+use Rattle.operators.specs.Operators.{one, two}
 use Rattle.belnap.proofs.Finite.{never}
-use Rattle.table.specs.declared.kinds.RowKind.{RowKind}
-use Rattle.table.specs.declared.kinds.RowKind.the-variants.{Always, DenyIf, GrantIf, One, Two}
-use Rattle.table.specs.declared.kinds.Kind.the-variants.{Row}
-use Rattle.table.specs.declared.entries.Entry.{Entry}
-use Rattle.table.specs.Kinds.{formOf, asRow}
-use Rattle.table.specs.Entries.{blank, usedBy}
+use Rattle.entries.specs.declared.kinds.RowKind.{RowKind}
+use Rattle.entries.specs.declared.kinds.RowKind.the-variants.{Always, DenyIf, GrantIf, One, Two}
+use Rattle.entries.specs.declared.kinds.Kind.the-variants.{Row}
+use Rattle.entries.specs.declared.Entry.{Entry}
+use Rattle.entries.specs.Kinds.{formOf, asRow}
+use Rattle.entries.specs.Entries.{blank, usedBy}
 use Rattle.table.specs.Contents.{Covers}
 use Rattle.table.proofs.Laws.{row-uses}
 use Rattle.decide.specs.Meaning.{bit, decideBy, decides, decision}

@@ -6,10 +6,12 @@ use mathlib.Core.Path.{_≡_, refl}
 use mathlib.Core.List.{List, [], _∷_, foldr, map}
 use Rattle.belnap.specs.declared.Decision.{Decision}
 use Rattle.belnap.specs.declared.Decision.the-variants.{U, D, G, C}
-use Rattle.belnap.specs.Operators.{conflation, openDefault, truthMeet, truthJoin, knowledgeMeet, knowledgeJoin, implication, guard, override}
-use Rattle.table.specs.Kinds.{kindOf}
-use Rattle.table.specs.Said.{Said, answered, refusing}
-use Rattle.table.specs.Entries.{bytesOf, bodyOf, decoded, noRoom, misnaming, permitted, judged, stepOf}
+use Rattle.belnap.specs.Lattice.{conflation, truthMeet, truthJoin, knowledgeMeet, knowledgeJoin}
+use Rattle.operators.specs.Operators.{openDefault, implication, guard, override}
+use Rattle.entries.specs.Kinds.{kindOf}
+use Rattle.entries.specs.Said.{Said, answered, refusing}
+use Rattle.entries.specs.Entries.{bytesOf}
+use Rattle.table.specs.Steps.{bodyOf, decoded, noRoom, misnaming, permitted, judged, stepOf}
 use Rattle.table.specs.Contents.{Contents}
 use Rattle.table.specs.Reading.{after, readOn, reading}
 use Rattle.decide.specs.Rows.{values, valueAt}

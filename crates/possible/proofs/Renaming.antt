@@ -5,12 +5,12 @@ use mathlib.Core.Bool.{true}
 use mathlib.Core.List.{List}
 use Prim.Native.Nat.{ℕ}
 use Rattle.belnap.specs.declared.Decision.the-variants.{U}
-use Rattle.belnap.specs.Operators.{one, two}
-use Rattle.table.specs.declared.kinds.RowKind.the-variants.{Always, DenyIf, GrantIf, One, Two}
-use Rattle.table.specs.declared.kinds.Kind.{Kind}
-use Rattle.table.specs.declared.kinds.Kind.the-variants.{Row, Question}
-use Rattle.table.specs.declared.entries.Entry.{Entry}
-use Rattle.table.specs.Renaming.{namesRow, renamed}
+use Rattle.operators.specs.Operators.{one, two}
+use Rattle.entries.specs.declared.kinds.RowKind.the-variants.{Always, DenyIf, GrantIf, One, Two}
+use Rattle.entries.specs.declared.kinds.Kind.{Kind}
+use Rattle.entries.specs.declared.kinds.Kind.the-variants.{Row, Question}
+use Rattle.entries.specs.declared.Entry.{Entry}
+use Rattle.entries.specs.Renaming.{namesRow, renamed}
 use Rattle.decide.proofs.Renaming.{Comes, Renames, value-kept}
 use Rattle.possible.specs.Sets.{single, imageOne, imageTwo}
 use Rattle.possible.specs.Possible.{setBy, setOf, possible}

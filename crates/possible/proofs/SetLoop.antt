@@ -6,11 +6,11 @@ use Prim.Native.Nat.{ℕ, _+_, _*_, _<_}
 use native.Mathlib.Omega.{arith}
 use lib.ListN.{length, getD, take, drop, set}
 use Rattle.belnap.specs.declared.Decision.the-variants.{U}
-use Rattle.table.specs.Entries.{blank}
-use Rattle.table.specs.Flat.{upTo, flat, entriesIn}
+use Rattle.entries.specs.Entries.{blank}
+use Rattle.runs.specs.Flat.{upTo, flat, entriesIn}
 use Rattle.table.specs.Reading.{padded}
-use Rattle.table.specs.declared.entries.Entry.{Entry}
-use Rattle.table.proofs.Runs.{entryFrom, held-at, run-holds, upTo-at}
+use Rattle.entries.specs.declared.Entry.{Entry}
+use Rattle.runs.proofs.Runs.{entryFrom, held-at, run-holds, upTo-at}
 use Rattle.decide.specs.Rows.{values, valueAt}
 use Rattle.decide.proofs.RowByRow.{same-value, coded-at, coded-get, coded-turn}
 use Rattle.possible.specs.Sets.{Finite, decisions, Set, single, mask, ofMask}

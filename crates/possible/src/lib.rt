@@ -3,17 +3,15 @@ pub mod sets;
 mod tables;
 
 use belnap::Decision;
+use entries::kinds;
+use entries::kinds::RowKind;
 use table::Table;
-use table::entries;
-use table::flat;
-use table::kinds;
-use table::kinds::RowKind;
 ghost use mathlib.Core.Path.{_≡_};
 ghost use mathlib.Core.List.{_++_, map};
 ghost use Prim.Native.Nat.{_*_, _≤_, _<_};
 ghost use lib.ListN.{length, getD, take, drop};
 ghost use Rattle.belnap.specs.declared.Decision.the-variants.{U};
-ghost use Rattle.table.specs.Flat.{perEntry, entriesIn};
+ghost use Rattle.runs.specs.Flat.{perEntry, entriesIn};
 ghost use Rattle.decide.specs.Rows.{values};
 ghost use Rattle.possible.specs.Sets.{decisions, single, mask, ofMask};
 ghost use Rattle.possible.specs.Possible.{factSet, setBy, setOf, possibleIn};
@@ -64,8 +62,8 @@ pub fn sets_below(rows: &[u8], end: usize, known: u32, request: u32, sets: &mut 
 {
     let mut i = 0;
     while i < end {
-        let at = flat::PER_ENTRY * i;
-        let kind = kinds::as_row(flat::kind_in(rows[at]));
+        let at = runs::PER_ENTRY * i;
+        let kind = kinds::as_row(runs::kind_in(rows[at]));
         let a = rows[at + 1];
         let b = rows[at + 2];
         let s = earlier(sets, i, a);
@@ -83,7 +81,7 @@ pub fn possible(t: Table, row: usize, known: u32, request: u32) -> u8
     if Table::ROWS <= row {
         return sets::only(Decision::U);
     }
-    let rows = flat::flat_rows(t, row + 1);
+    let rows = runs::flat_rows(t, row + 1);
     let mut sets = [0u8; Table::ROWS];
     sets_below(&rows, row + 1, known, request, &mut sets);
     sets[row]

@@ -1,11 +1,11 @@
 // Sets of decisions as masks in which u counts 1, d 2, g 4, c 8. The high bits of a number that is taken for a mask count nothing.
 use crate::tables;
 use belnap::Decision;
-use belnap::operators::OneRow;
-use belnap::operators::TwoRow;
+use operators::OneRow;
+use operators::TwoRow;
 ghost use mathlib.Core.Path.{_≡_};
 ghost use Prim.Native.Nat.{_*_, _/_, _%_, _^_, _<_};
-ghost use Rattle.belnap.specs.Operators.{one, two};
+ghost use Rattle.operators.specs.Operators.{one, two};
 ghost use Rattle.possible.specs.Sets.{decisions, mask, ofMask, single, either, imageOne, imageTwo};
 
 // The set of one decision alone.

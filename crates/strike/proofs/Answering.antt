@@ -8,12 +8,12 @@ use native.Mathlib.Omega.{arith}
 use lib.ListN.{length, getD, drop}
 use lib.Dec.{ltb}
 use borrow.Author.Tests.{ltb-true, lt-ltb, le-ltb, le-leb, lt-leb}
-use Rattle.table.specs.declared.refusals.Refusal.{Refusal}
+use Rattle.entries.specs.declared.refusals.Refusal.{Refusal}
 use Rattle.table.specs.declared.Table.{Table}
 use Rattle.table.specs.declared.Reading.{Reading}
-use Rattle.table.specs.Refusals.{notThere, stillNamed, outputTooShort}
-use Rattle.table.specs.Said.{Said, answered, refusing, refusal}
-use Rattle.table.specs.Entries.{blank, sizeOf}
+use Rattle.entries.specs.Refusals.{notThere, stillNamed, outputTooShort}
+use Rattle.entries.specs.Said.{Said, answered, refusing, refusal}
+use Rattle.entries.specs.Entries.{blank, sizeOf}
 use Rattle.table.specs.Contents.{Contents, written, encoded}
 use Rattle.table.specs.Reading.{reading, tableOf, contentsIn}
 use Rattle.table.proofs.Writing.{of-accepted}

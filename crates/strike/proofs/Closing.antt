@@ -11,12 +11,13 @@ use lib.Seq.{take-suc}
 use lib.Dec.{eqb}
 use borrow.Author.Tests.{eqb-false, ne-eqb}
 use Rattle.belnap.proofs.Finite.{never, or-left, or-right}
-use Rattle.table.specs.declared.kinds.Kind.{Kind}
-use Rattle.table.specs.declared.entries.Entry.{Entry}
-use Rattle.table.specs.declared.entries.Tally.{Tally}
-use Rattle.table.specs.Entries.{tally, blank, sizeOf, bytesOf}
+use Rattle.entries.specs.declared.kinds.Kind.{Kind}
+use Rattle.entries.specs.declared.Entry.{Entry}
+use Rattle.table.specs.declared.steps.Tally.{Tally}
+use Rattle.entries.specs.Entries.{blank, sizeOf, bytesOf}
+use Rattle.table.specs.Steps.{tally}
 use Rattle.table.specs.Contents.{highest, written}
-use Rattle.table.specs.Renaming.{namesRow}
+use Rattle.entries.specs.Renaming.{namesRow}
 use Rattle.table.proofs.Writing.{Sound}
 use Rattle.table.proofs.Renaming.{renamed-size, renamed-uses, renamed-sound, first-below, second-below}
 use Rattle.strike.specs.Strike.{lower, old, lowered, without, closedUp, names, namedBy}

@@ -9,12 +9,13 @@ use native.Mathlib.Numerals.{add-one}
 use lib.ListN.{length, getD, take, drop, length-append, length-drop, take-append-drop, List·getD-append}
 use lib.Seq.{take-length, drop-length, take-at, drop-at, take-suc, drop-drop, getD-take, getD-append-add, length-take-le}
 use borrow.Rule.Slice.PartMut.{putMid, midOf}
-use Rattle.table.specs.declared.entries.Entry.{Entry}
+use Rattle.entries.specs.declared.Entry.{Entry}
 use Rattle.table.specs.declared.Table.{Table}
-use Rattle.table.specs.Entries.{blank, rowLimit, questionLimit, numbersOf, sizeOf, bytesOf, onto}
+use Rattle.entries.specs.Entries.{blank, numbersOf, sizeOf, bytesOf, onto}
+use Rattle.table.specs.Steps.{rowLimit, questionLimit}
 use Rattle.table.specs.Contents.{Contents, entries, written}
 use Rattle.table.specs.Reading.{tableOf, contentsIn}
-use Rattle.table.proofs.OneEntry.{size, onto-long}
+use Rattle.entries.proofs.OneEntry.{size, onto-long}
 use Rattle.table.proofs.Writing.{Whole, written-append, written-more}
 use Rattle.table.proofs.Padding.{padded-length, padded-front}
 use Rattle.strike.specs.Strike.{old, lowered, closedUp, struckBytes, Fits}

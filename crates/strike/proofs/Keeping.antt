@@ -8,11 +8,11 @@ use mathlib.Core.Logic.{inl, inr}
 use Prim.Native.Nat.{ℕ, _<_}
 use lib.ListN.{length, getD, List·getD-eq-default}
 use Rattle.belnap.proofs.Finite.{never}
-use Rattle.table.specs.declared.entries.Entry.{Entry}
-use Rattle.table.specs.Entries.{blank}
+use Rattle.entries.specs.declared.Entry.{Entry}
+use Rattle.entries.specs.Entries.{blank}
 use Rattle.table.specs.Contents.{Contents, predicates, entries}
-use Rattle.table.specs.Renaming.{namesRow}
-use Rattle.table.proofs.Numbers.{by-order}
+use Rattle.entries.specs.Renaming.{namesRow}
+use Rattle.entries.proofs.Numbers.{by-order}
 use Rattle.table.proofs.Writing.{each-get, Whole, RowAt, QuestionAt}
 use Rattle.table.proofs.Laws.{covered}
 use Rattle.table.proofs.Renaming.{first-below, second-below}

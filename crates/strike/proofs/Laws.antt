@@ -8,9 +8,10 @@ use Prim.Native.Nat.{ℕ, suc, _+_, _≤_, _<_}
 use native.Mathlib.Omega.{arith}
 use lib.ListN.{length, getD, length-map, List·getD-append}
 use lib.Seq.{getD-append-add}
-use Rattle.table.specs.Said.{Said, answered}
-use Rattle.table.specs.Kinds.{isRow, isQuestion}
-use Rattle.table.specs.Entries.{tally, blank}
+use Rattle.entries.specs.Said.{Said, answered}
+use Rattle.entries.specs.Kinds.{isRow, isQuestion}
+use Rattle.entries.specs.Entries.{blank}
+use Rattle.table.specs.Steps.{tally}
 use Rattle.table.specs.Contents.{Contents, predicates, entries}
 use Rattle.table.specs.Reading.{reading}
 use Rattle.table.proofs.Writing.{Each, each-get, each-of, Whole, of-accepted, whole-accepted, RowAt, QuestionAt}

@@ -8,12 +8,12 @@ use native.Mathlib.Omega.{arith}
 use lib.ListN.{length, take, drop}
 use lib.Seq.{take-at, drop-at}
 use borrow.Author.Tests.{leb-false, ltb-false}
-use Rattle.table.specs.declared.refusals.Refusal.{Refusal}
-use Rattle.table.specs.Refusals.{ifMissing}
-use Rattle.table.specs.Said.{Said, answered, refusing, unless}
+use Rattle.entries.specs.declared.refusals.Refusal.{Refusal}
+use Rattle.entries.specs.Refusals.{ifMissing}
+use Rattle.entries.specs.Said.{Said, answered, refusing, unless}
 use Rattle.table.specs.Contents.{Contents, entries}
 use Rattle.table.specs.Reading.{reading}
-use Rattle.table.proofs.Saying.{unless-answered}
+use Rattle.entries.proofs.Saying.{unless-answered}
 use Rattle.strike.specs.declared.Struck.the-variants.{Written, Refused}
 use Rattle.strike.specs.Strike.{struck, struckBytes, namedBy, missing, inUse, tooShort, strikeRefusal, struckAnswer, shownStruck, struckOutput}
 use Rattle.strike.proofs.Laws.{struck-accepted, output-of}

@@ -4,13 +4,13 @@ use mathlib.Core.Bool.{Bool, false, cond, _&&_, _||_}
 use mathlib.Core.List.{List, [], _∷_, _++_, map}
 use lib.ListN.{length, drop}
 use lib.Dec.{leb, ltb, eqb}
-use Rattle.table.specs.declared.entries.Entry.{Entry}
+use Rattle.entries.specs.declared.Entry.{Entry}
 use Rattle.table.specs.declared.Table.{Table}
-use Rattle.table.specs.Refusals.{stillNamed, outputTooShort, ifMissing}
-use Rattle.table.specs.Said.{Said, answered, refusing, andThen, unless}
-use Rattle.table.specs.Entries.{rowLimit, questionLimit}
+use Rattle.entries.specs.Refusals.{stillNamed, outputTooShort, ifMissing}
+use Rattle.entries.specs.Said.{Said, answered, refusing, andThen, unless}
+use Rattle.table.specs.Steps.{rowLimit, questionLimit}
 use Rattle.table.specs.Contents.{Contents, entries, encoded}
-use Rattle.table.specs.Renaming.{namesRow, renamed}
+use Rattle.entries.specs.Renaming.{namesRow, renamed}
 use Rattle.strike.specs.declared.Struck.{Struck}
 use Rattle.strike.specs.declared.Struck.the-variants.{Written, Refused}
 

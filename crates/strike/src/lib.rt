@@ -1,10 +1,9 @@
 // Striking a row: the table without it, written into a second lent buffer, or a refusal that changes nothing.
+use entries::Entry;
+use entries::refusals;
+use entries::refusals::Refusal;
 use table::Outcome;
 use table::Table;
-use table::entries;
-use table::entries::Entry;
-use table::refusals;
-use table::refusals::Refusal;
 ghost use mathlib.Core.Path.{_≡_};
 ghost use mathlib.Core.Bool.{cond};
 ghost use mathlib.Core.List.{_++_};

@@ -10,26 +10,27 @@ use lib.Seq.{take-at, drop-at, take-append-add, getD-at, getD-take, length-take-
 use lib.Dec.{ltb}
 use borrow.Author.Tests.{ltb-true}
 use Rattle.belnap.proofs.Finite.{both-parts}
-use Rattle.table.specs.declared.refusals.Refusal.{Refusal}
-use Rattle.table.specs.declared.kinds.RowKind.the-variants.{Always, DenyIf, GrantIf, One, Two}
-use Rattle.table.specs.declared.kinds.QuestionKind.the-variants.{Compare, Not, Both}
-use Rattle.table.specs.declared.kinds.Kind.{Kind}
-use Rattle.table.specs.declared.kinds.Kind.the-variants.{Row, Question}
-use Rattle.table.specs.declared.kinds.Announced.{Announced}
-use Rattle.table.specs.declared.kinds.Announced.the-variants.{Listed, Unlisted}
-use Rattle.table.specs.declared.entries.Entry.{Entry}
-use Rattle.table.specs.declared.entries.Tally.{Tally}
-use Rattle.table.specs.Refusals.{cutShort, ofReading, isAmong}
-use Rattle.table.specs.Said.{answered, refusing, refusal, unless}
-use Rattle.table.specs.Kinds.{kindOf, formOf, asRow}
-use Rattle.table.specs.Entries.{tally, predicateLimit, rowLimit, questionLimit, sizeLimit, bodySize, blank, bytesOf, uses, usedBy}
-use Rattle.table.specs.Entries.{numberAt, bodyOf, decodedBy, decoded, noRoom, named, misnaming, permitted, judged, stepOf}
+use Rattle.entries.specs.declared.refusals.Refusal.{Refusal}
+use Rattle.entries.specs.declared.kinds.RowKind.the-variants.{Always, DenyIf, GrantIf, One, Two}
+use Rattle.entries.specs.declared.kinds.QuestionKind.the-variants.{Compare, Not, Both}
+use Rattle.entries.specs.declared.kinds.Kind.{Kind}
+use Rattle.entries.specs.declared.kinds.Kind.the-variants.{Row, Question}
+use Rattle.entries.specs.declared.kinds.Announced.{Announced}
+use Rattle.entries.specs.declared.kinds.Announced.the-variants.{Listed, Unlisted}
+use Rattle.entries.specs.declared.Entry.{Entry}
+use Rattle.table.specs.declared.steps.Tally.{Tally}
+use Rattle.entries.specs.Refusals.{cutShort, ofReading, isAmong}
+use Rattle.entries.specs.Said.{answered, refusing, refusal, unless}
+use Rattle.entries.specs.Kinds.{kindOf, formOf, asRow}
+use Rattle.entries.specs.Entries.{sizeLimit, bodySize, blank, bytesOf, uses, usedBy}
+use Rattle.table.specs.Steps.{tally, predicateLimit, rowLimit, questionLimit}
+use Rattle.table.specs.Steps.{numberAt, bodyOf, decodedBy, decoded, noRoom, named, misnaming, permitted, judged, stepOf}
 use Rattle.table.specs.Contents.{Contents, Covers, none, tallyOf, highest, predicates, entries, written, encoded}
 use Rattle.table.specs.Reading.{after, readOn, reading}
-use Rattle.table.proofs.Numbers.{by-order}
-use Rattle.table.proofs.OneEntry.{few, size}
-use Rattle.table.proofs.Saying.{unless-none, unless-some}
-use Rattle.table.proofs.Steps.{body-cut, body-whole, step-given}
+use Rattle.entries.proofs.Numbers.{by-order}
+use Rattle.entries.proofs.OneEntry.{few, size}
+use Rattle.entries.proofs.Saying.{unless-none, unless-some}
+use Rattle.table.proofs.Decoding.{body-cut, body-whole, step-given}
 use Rattle.table.proofs.Writing.{Each, each-get, Stopped, of-accepted, of-refused, read-past, whole-accepted, RowAt, QuestionAt}
 
 -- an entry has at most three bytes

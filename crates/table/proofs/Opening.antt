@@ -6,7 +6,7 @@ use Prim.Native.Nat.{ℕ}
 use native.Mathlib.Omega.{arith}
 use Rattle.table.specs.declared.Reading.{Reading}
 use Rattle.table.specs.declared.Outcome.the-variants.{Read, Refused}
-use Rattle.table.specs.Said.{Said, answered, refusing, whyOf}
+use Rattle.entries.specs.Said.{Said, answered, refusing, whyOf}
 use Rattle.table.specs.Contents.{Contents}
 use Rattle.table.specs.Reading.{reading, tableOf, outcomeOf, orNone, shown}
 use Rattle.table.proofs.Writing.{Whole, of-accepted}

@@ -6,21 +6,21 @@ use Prim.Native.Nat.{ℕ, zero, suc, _-_, _≤_, _<_}
 use native.Mathlib.Omega.{arith}
 use lib.Dec.{ltb}
 use borrow.Author.Tests.{ltb-true, ltb-false, lt-ltb, le-ltb}
-use Rattle.table.specs.declared.kinds.RowKind.{RowKind}
-use Rattle.table.specs.declared.kinds.QuestionKind.{QuestionKind}
-use Rattle.table.specs.declared.kinds.Kind.{Kind}
-use Rattle.table.specs.declared.kinds.Kind.the-variants.{Row, Question}
-use Rattle.table.specs.declared.kinds.Names.{Names}
-use Rattle.table.specs.declared.kinds.Names.the-variants.{Nothing, Predicates, Rows, Questions}
-use Rattle.table.specs.declared.entries.Entry.{Entry}
-use Rattle.table.specs.declared.entries.Tally.{Tally}
-use Rattle.table.specs.declared.refusals.Refusal.{Refusal}
-use Rattle.table.specs.Refusals.{rowAfterQuestion, tooManyRows, tooManyQuestions, ofReading, isAmong}
-use Rattle.table.specs.Said.{Said, answered, refusing, refusal, unless}
-use Rattle.table.specs.Entries.{rowLimit, questionLimit, namesOf}
-use Rattle.table.specs.Entries.{noRoom, named, misnamed, misnaming, permitted}
-use Rattle.table.proofs.Numbers.{by-order}
-use Rattle.table.proofs.Saying.{unless-none, unless-answered}
+use Rattle.entries.specs.declared.kinds.RowKind.{RowKind}
+use Rattle.entries.specs.declared.kinds.QuestionKind.{QuestionKind}
+use Rattle.entries.specs.declared.kinds.Kind.{Kind}
+use Rattle.entries.specs.declared.kinds.Kind.the-variants.{Row, Question}
+use Rattle.entries.specs.declared.kinds.Names.{Names}
+use Rattle.entries.specs.declared.kinds.Names.the-variants.{Nothing, Predicates, Rows, Questions}
+use Rattle.entries.specs.declared.Entry.{Entry}
+use Rattle.table.specs.declared.steps.Tally.{Tally}
+use Rattle.entries.specs.declared.refusals.Refusal.{Refusal}
+use Rattle.entries.specs.Refusals.{rowAfterQuestion, tooManyRows, tooManyQuestions, ofReading, isAmong}
+use Rattle.entries.specs.Said.{Said, answered, refusing, refusal, unless}
+use Rattle.entries.specs.Entries.{namesOf}
+use Rattle.table.specs.Steps.{rowLimit, questionLimit, noRoom, named, misnamed, misnaming, permitted}
+use Rattle.entries.proofs.Numbers.{by-order}
+use Rattle.entries.proofs.Saying.{unless-none, unless-answered}
 
 -- what room means: a row needs a place and no question before it, a question a place
 abbrev pub Room : Kind → Tally → Type 0

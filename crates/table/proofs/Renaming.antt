@@ -8,14 +8,15 @@ use native.Mathlib.Omega.{arith}
 use lib.Dec.{ltb}
 use borrow.Author.Tests.{ltb-true, lt-ltb}
 use Rattle.belnap.proofs.Finite.{both-parts}
-use Rattle.table.specs.declared.kinds.Kind.{Kind}
-use Rattle.table.specs.declared.kinds.Names.{Names}
-use Rattle.table.specs.declared.kinds.Names.the-variants.{Nothing, Predicates, Rows, Questions}
-use Rattle.table.specs.declared.entries.Entry.{Entry}
-use Rattle.table.specs.declared.entries.Tally.{Tally}
-use Rattle.table.specs.Entries.{numbersOf, namesOf, sizeOf, usedBy, uses, limit, namedAt}
-use Rattle.table.specs.Renaming.{rowNumbers, namesRow, renamed}
-use Rattle.table.proofs.OneEntry.{size}
+use Rattle.entries.specs.declared.kinds.Kind.{Kind}
+use Rattle.entries.specs.declared.kinds.Names.{Names}
+use Rattle.entries.specs.declared.kinds.Names.the-variants.{Nothing, Predicates, Rows, Questions}
+use Rattle.entries.specs.declared.Entry.{Entry}
+use Rattle.table.specs.declared.steps.Tally.{Tally}
+use Rattle.entries.specs.Entries.{numbersOf, namesOf, sizeOf, usedBy, uses}
+use Rattle.table.specs.Steps.{limit, namedAt}
+use Rattle.entries.specs.Renaming.{rowNumbers, namesRow, renamed}
+use Rattle.entries.proofs.OneEntry.{size}
 use Rattle.table.proofs.Writing.{Sound}
 
 module _ (new : ℕ → ℕ) where

@@ -7,22 +7,23 @@ use native.Mathlib.Omega.{arith}
 use native.Mathlib.Numerals.{add-one}
 use lib.ListN.{length, getD, drop, set, length-append, length-drop, drop-of-length-le}
 use lib.Seq.{drop-cons, drop-drop}
-use Rattle.table.specs.declared.refusals.Refusal.{Refusal}
-use Rattle.table.specs.declared.kinds.RowKind.{RowKind}
-use Rattle.table.specs.declared.kinds.QuestionKind.{QuestionKind}
-use Rattle.table.specs.declared.kinds.Kind.{Kind}
-use Rattle.table.specs.declared.kinds.Kind.the-variants.{Row, Question}
-use Rattle.table.specs.declared.entries.Entry.{Entry}
-use Rattle.table.specs.declared.entries.Tally.{Tally}
+use Rattle.entries.specs.declared.refusals.Refusal.{Refusal}
+use Rattle.entries.specs.declared.kinds.RowKind.{RowKind}
+use Rattle.entries.specs.declared.kinds.QuestionKind.{QuestionKind}
+use Rattle.entries.specs.declared.kinds.Kind.{Kind}
+use Rattle.entries.specs.declared.kinds.Kind.the-variants.{Row, Question}
+use Rattle.entries.specs.declared.Entry.{Entry}
+use Rattle.table.specs.declared.steps.Tally.{Tally}
 use Rattle.table.specs.declared.Table.{Table}
-use Rattle.table.specs.Said.{Said, answered, refusing, refusal}
-use Rattle.table.specs.Entries.{blank, uses, sizeOf, rowLimit, questionLimit, oneMore, noRoom, stepOf}
+use Rattle.entries.specs.Said.{Said, answered, refusing, refusal}
+use Rattle.entries.specs.Entries.{blank, uses, sizeOf}
+use Rattle.table.specs.Steps.{rowLimit, questionLimit, oneMore, noRoom, stepOf}
 use Rattle.table.specs.Contents.{Contents, none, tallyOf, withKind, withEntry, highest}
 use Rattle.table.specs.Reading.{after, readOn, reading, tableOf}
 use Rattle.table.proofs.Padding.{padded-more}
-use Rattle.table.proofs.OneEntry.{size}
+use Rattle.entries.proofs.OneEntry.{size}
 use Rattle.table.proofs.Permission.{room-of}
-use Rattle.table.proofs.Steps.{step-took}
+use Rattle.table.proofs.Decoding.{step-took}
 
 -- how many entries more are looked for does not matter, once there are as many as bytes
 after-same : (x : Said Entry) (c : Contents) (at : ℕ) (f g : ℕ → Contents → Said Contents) → ((e : Entry) (c : Contents) → f (sizeOf e) c ≡ g (sizeOf e) c) →

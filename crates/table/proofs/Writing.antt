@@ -8,21 +8,22 @@ use native.Mathlib.Omega.{arith}
 use lib.ListN.{length, getD, take, drop, length-append, length-drop, take-append-drop}
 use lib.Seq.{drop-at}
 use lib.Dec.{ltb}
-use Rattle.table.specs.declared.refusals.Refusal.{Refusal}
-use Rattle.table.specs.declared.kinds.Kind.{Kind}
-use Rattle.table.specs.declared.kinds.Kind.the-variants.{Row, Question}
-use Rattle.table.specs.declared.entries.Entry.{Entry}
-use Rattle.table.specs.declared.entries.Tally.{Tally}
-use Rattle.table.specs.Said.{Said, answered, refusing, refusal}
-use Rattle.table.specs.Kinds.{formOf, isRow, isQuestion, asRow, asQuestion}
-use Rattle.table.specs.Entries.{tally, numbersOf, sizeOf, bytesOf, rowLimit, questionLimit, numberAt, decoded, judged, stepOf}
+use Rattle.entries.specs.declared.refusals.Refusal.{Refusal}
+use Rattle.entries.specs.declared.kinds.Kind.{Kind}
+use Rattle.entries.specs.declared.kinds.Kind.the-variants.{Row, Question}
+use Rattle.entries.specs.declared.Entry.{Entry}
+use Rattle.table.specs.declared.steps.Tally.{Tally}
+use Rattle.entries.specs.Said.{Said, answered, refusing, refusal}
+use Rattle.entries.specs.Kinds.{formOf, isRow, isQuestion, asRow, asQuestion}
+use Rattle.entries.specs.Entries.{numbersOf, sizeOf, bytesOf}
+use Rattle.table.specs.Steps.{tally, rowLimit, questionLimit, numberAt, decoded, judged, stepOf}
 use Rattle.table.specs.Contents.{Contents, none, tallyOf, withKind, withEntry, entries, written, encoded}
 use Rattle.table.specs.Reading.{after, readOn, reading}
 pub use Rattle.table.specs.Whole.{Tidy, Sound, Each, Whole, RowAt, QuestionAt}
-use Rattle.table.proofs.KindTable.{kind-of-byte, is-row, is-question}
-use Rattle.table.proofs.OneEntry.{few, length-front, size}
+use Rattle.entries.proofs.KindTable.{kind-of-byte, is-row, is-question}
+use Rattle.entries.proofs.OneEntry.{few, length-front, size}
 use Rattle.table.proofs.Permission.{room-of, room-for, Allowed, permitted-if}
-use Rattle.table.proofs.Steps.{body-whole, Decodes, step-took}
+use Rattle.table.proofs.Decoding.{body-whole, Decodes, step-took}
 use Rattle.table.proofs.Turns.{enough, read-none}
 
 -- what holds of each element of a list

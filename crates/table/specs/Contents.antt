@@ -2,11 +2,12 @@
 use Prim.Native.Nat.{ℕ, _≤_, max}
 use mathlib.Core.List.{List, [], _∷_, _++_}
 use lib.ListN.{length, getD}
-use Rattle.table.specs.declared.kinds.Kind.{Kind}
-use Rattle.table.specs.declared.kinds.Kind.the-variants.{Row, Question}
-use Rattle.table.specs.declared.entries.Entry.{Entry}
-use Rattle.table.specs.declared.entries.Tally.{Tally}
-use Rattle.table.specs.Entries.{tally, blank, uses, bytesOf}
+use Rattle.entries.specs.declared.kinds.Kind.{Kind}
+use Rattle.entries.specs.declared.kinds.Kind.the-variants.{Row, Question}
+use Rattle.entries.specs.declared.Entry.{Entry}
+use Rattle.table.specs.declared.steps.Tally.{Tally}
+use Rattle.entries.specs.Entries.{blank, uses, bytesOf}
+use Rattle.table.specs.Steps.{tally}
 
 -- "Rows are numbered from 0 in order, questions from 0 separately."
 pub record Contents : Type 0 where

@@ -2,13 +2,14 @@
 use Prim.Native.Nat.{ℕ, zero, suc, _+_, _-_}
 use mathlib.Core.List.{List, [], _∷_, _++_}
 use lib.ListN.{length, take, drop, replicate}
-use Rattle.table.specs.declared.entries.Entry.{Entry}
+use Rattle.entries.specs.declared.Entry.{Entry}
 use Rattle.table.specs.declared.Table.{Table}
 use Rattle.table.specs.declared.Reading.{Reading}
 use Rattle.table.specs.declared.Outcome.{Outcome}
 use Rattle.table.specs.declared.Outcome.the-variants.{Read, Refused}
-use Rattle.table.specs.Said.{Said, answered, refusing, refusal, whyOf}
-use Rattle.table.specs.Entries.{rowLimit, questionLimit, blank, sizeOf, stepOf}
+use Rattle.entries.specs.Said.{Said, answered, refusing, refusal, whyOf}
+use Rattle.entries.specs.Entries.{blank, sizeOf}
+use Rattle.table.specs.Steps.{rowLimit, questionLimit, stepOf}
 use Rattle.table.specs.Contents.{Contents, none, tallyOf, withEntry, predicates}
 
 -- what was read before an entry, and what is said of it; `rest` reads on behind it

@@ -4,11 +4,12 @@ use mathlib.Core.Path.{_≡_}
 use mathlib.Core.Bool.{Bool, true}
 use mathlib.Core.List.{List, [], _∷_}
 use lib.ListN.{length}
-use Rattle.table.specs.declared.kinds.Kind.{Kind}
-use Rattle.table.specs.declared.entries.Entry.{Entry}
-use Rattle.table.specs.declared.entries.Tally.{Tally}
-use Rattle.table.specs.Kinds.{isRow, isQuestion}
-use Rattle.table.specs.Entries.{tally, rowLimit, questionLimit, numbersOf, numberAt, named}
+use Rattle.entries.specs.declared.kinds.Kind.{Kind}
+use Rattle.entries.specs.declared.Entry.{Entry}
+use Rattle.table.specs.declared.steps.Tally.{Tally}
+use Rattle.entries.specs.Kinds.{isRow, isQuestion}
+use Rattle.entries.specs.Entries.{numbersOf}
+use Rattle.table.specs.Steps.{tally, rowLimit, questionLimit, numberAt, named}
 use Rattle.table.specs.Contents.{Contents}
 
 -- a number that an entry's kind has not is 0

@@ -1,20 +1,16 @@
-// The table: its type and limits, reading it from bytes, and one entry out of it.
-pub mod entries;
-pub mod flat;
-pub mod kinds;
-pub mod lookup;
-pub mod refusals;
+// The table: its type and limits, and reading it from bytes.
+pub mod steps;
 
-use crate::entries::Entry;
-use crate::entries::Step;
-use crate::entries::Tally;
-use crate::kinds::Kind;
-use crate::kinds::RowKind;
-use crate::refusals::Refusal;
+use crate::steps::Step;
+use crate::steps::Tally;
 use belnap::Decision;
+use entries::Entry;
+use entries::kinds::Kind;
+use entries::kinds::RowKind;
+use entries::refusals::Refusal;
 ghost use mathlib.Core.Path.{_≡_};
 ghost use Prim.Native.Nat.{max};
-ghost use Rattle.table.specs.Said.{refusing};
+ghost use Rattle.entries.specs.Said.{refusing};
 ghost use Rattle.table.specs.Contents.{none};
 ghost use Rattle.table.specs.Reading.{reading, tableOf, shown};
 
@@ -91,7 +87,7 @@ pub fn read(s: &[u8]) -> Reading
     let mut at = 0;
     while at < s.len() {
         let before = t.tally;
-        let step = entries::step_at(s, at, before);
+        let step = steps::step_at(s, at, before);
         match step {
             Step::Took(e) => {
                 let kind = e.kind;
@@ -106,7 +102,7 @@ pub fn read(s: &[u8]) -> Reading
                         t.questions[asked] = e;
                     }
                 }
-                let more = entries::one_more(kind, before);
+                let more = steps::one_more(kind, before);
                 t.tally = more;
                 at = at + entries::size_of(e);
             }

@@ -9,9 +9,9 @@ use native.Mathlib.Omega.{arith}
 use native.Mathlib.Nat.{pow-le-pow-right, zero-add, suc-add}
 use Rattle.belnap.specs.Decisions.{alike}
 use Rattle.belnap.proofs.Finite.{never}
-use Rattle.table.specs.declared.entries.Entry.{Entry}
+use Rattle.entries.specs.declared.Entry.{Entry}
 use Rattle.table.specs.Contents.{Covers}
-use Rattle.table.proofs.Numbers.{by-order}
+use Rattle.entries.proofs.Numbers.{by-order}
 use Rattle.decide.specs.Meaning.{bit}
 use Rattle.walk.specs.declared.questions.Look.{Look}
 use Rattle.walk.specs.declared.questions.Look.the-variants.{True, False, Open}

@@ -6,8 +6,8 @@ use mathlib.Core.List.{List}
 use Prim.Native.Nat.{ℕ, zero, suc, _+_, _-_, _^_, _≤_, _<_}
 use native.Mathlib.Omega.{arith}
 use native.Mathlib.Nat.{two-pow-succ}
-use Rattle.table.specs.declared.entries.Entry.{Entry}
-use Rattle.table.proofs.Numbers.{by-order}
+use Rattle.entries.specs.declared.Entry.{Entry}
+use Rattle.entries.proofs.Numbers.{by-order}
 use Rattle.walk.specs.declared.questions.Look.{Look}
 use Rattle.walk.specs.declared.questions.Look.the-variants.{True, False, Open}
 use Rattle.walk.specs.declared.Reply.the-variants.{Unfinished}

@@ -4,7 +4,7 @@ use mathlib.Core.Path.{_≡_, ap, _∙_}
 use Prim.Native.Nat.{ℕ, _≤_, _+_, _*_, _%_, _^_}
 use native.Mathlib.Omega.{arith}
 use native.Mathlib.Numerals.{add-one}
-use Rattle.table.specs.Entries.{predicateLimit}
+use Rattle.table.specs.Steps.{predicateLimit}
 use native.Mathlib.Nat.{pow-le-pow-right, one-le-pow, mod-eq-of-lt, one-mul, two-pow-succ}
 
 pub power-positive : (k : ℕ) → 1 ≤ 2 ^ k

@@ -6,14 +6,14 @@ use mathlib.Core.List.{List, _++_, map}
 use Prim.Native.Nat.{ℕ, _+_, _-_, _^_, _≤_, _<_}
 use native.Mathlib.Omega.{arith}
 use lib.ListN.{getD, drop}
-use Rattle.table.specs.declared.kinds.QuestionKind.{QuestionKind}
-use Rattle.table.specs.declared.kinds.QuestionKind.the-variants.{Compare, Not, Both}
-use Rattle.table.specs.declared.entries.Entry.{Entry}
-use Rattle.table.specs.Kinds.{asQuestion}
-use Rattle.table.specs.Entries.{numberLimit, blank}
+use Rattle.entries.specs.declared.kinds.QuestionKind.{QuestionKind}
+use Rattle.entries.specs.declared.kinds.QuestionKind.the-variants.{Compare, Not, Both}
+use Rattle.entries.specs.declared.Entry.{Entry}
+use Rattle.entries.specs.Kinds.{asQuestion}
+use Rattle.entries.specs.Entries.{numberLimit, blank}
 use Rattle.table.specs.Reading.{padded}
-use Rattle.table.specs.Flat.{upTo, flat, entriesIn}
-use Rattle.table.proofs.Numbers.{by-order}
+use Rattle.runs.specs.Flat.{upTo, flat, entriesIn}
+use Rattle.entries.proofs.Numbers.{by-order}
 use Rattle.table.proofs.Padding.{padded-at}
 use Rattle.decide.specs.Rows.{values, valueAt}
 use Rattle.decide.proofs.RowByRow.{by-rows, before-there, before-past, same-value, side-by-side}

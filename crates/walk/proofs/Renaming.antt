@@ -9,15 +9,15 @@ use Prim.Native.Nat.{ℕ, zero, suc, _+_, _-_, _^_, _≤_}
 use native.Mathlib.Omega.{arith}
 use lib.ListN.{getD}
 use Rattle.belnap.proofs.Finite.{never}
-use Rattle.table.specs.declared.kinds.QuestionKind.{QuestionKind}
-use Rattle.table.specs.declared.kinds.QuestionKind.the-variants.{Compare, Not, Both}
-use Rattle.table.specs.declared.kinds.Kind.{Kind}
-use Rattle.table.specs.declared.kinds.Kind.the-variants.{Row, Question}
-use Rattle.table.specs.declared.entries.Entry.{Entry}
-use Rattle.table.specs.Kinds.{isQuestion, asQuestion}
-use Rattle.table.specs.Entries.{blank}
-use Rattle.table.specs.Renaming.{namesRow, renamed}
-use Rattle.table.proofs.Numbers.{by-order}
+use Rattle.entries.specs.declared.kinds.QuestionKind.{QuestionKind}
+use Rattle.entries.specs.declared.kinds.QuestionKind.the-variants.{Compare, Not, Both}
+use Rattle.entries.specs.declared.kinds.Kind.{Kind}
+use Rattle.entries.specs.declared.kinds.Kind.the-variants.{Row, Question}
+use Rattle.entries.specs.declared.Entry.{Entry}
+use Rattle.entries.specs.Kinds.{isQuestion, asQuestion}
+use Rattle.entries.specs.Entries.{blank}
+use Rattle.entries.specs.Renaming.{namesRow, renamed}
+use Rattle.entries.proofs.Numbers.{by-order}
 use Rattle.table.specs.Contents.{Covers}
 use Rattle.decide.specs.Rows.{values, valueAt}
 use Rattle.decide.specs.Meaning.{decision}

@@ -4,7 +4,7 @@ use mathlib.Core.Path.{_≡_, refl, sym, ap, _∙_}
 use Prim.Native.Nat.{ℕ, zero, suc, _≤_, _<_, _-_, _+_, _^_}
 use native.Mathlib.Omega.{arith}
 use borrow.Author.Tests.{le-leb, lt-leb}
-use Rattle.table.proofs.Numbers.{by-order}
+use Rattle.entries.proofs.Numbers.{by-order}
 use Rattle.walk.specs.declared.questions.Look.{Look}
 use Rattle.walk.specs.declared.questions.Look.the-variants.{True, False, Open}
 use Rattle.walk.specs.declared.Reply.{Reply}

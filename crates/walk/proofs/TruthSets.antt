@@ -8,11 +8,11 @@ use Prim.Native.Nat.{ℕ, _<_}
 use lib.ListN.{getD}
 use Rattle.belnap.specs.declared.Decision.{Decision}
 use Rattle.belnap.specs.Orders.{atOrBelow}
-use Rattle.table.specs.declared.kinds.QuestionKind.{QuestionKind}
-use Rattle.table.specs.declared.kinds.QuestionKind.the-variants.{Compare, Not, Both}
-use Rattle.table.specs.declared.entries.Entry.{Entry}
-use Rattle.table.specs.Kinds.{asQuestion}
-use Rattle.table.specs.Entries.{blank}
+use Rattle.entries.specs.declared.kinds.QuestionKind.{QuestionKind}
+use Rattle.entries.specs.declared.kinds.QuestionKind.the-variants.{Compare, Not, Both}
+use Rattle.entries.specs.declared.Entry.{Entry}
+use Rattle.entries.specs.Kinds.{asQuestion}
+use Rattle.entries.specs.Entries.{blank}
 use Rattle.table.specs.Contents.{Covers}
 use Rattle.decide.specs.Meaning.{bit}
 use Rattle.decide.specs.Requests.{Fills, Learns, AllKnown}

@@ -5,10 +5,10 @@ use mathlib.Core.List.{List}
 use lib.ListN.{getD, take}
 use Rattle.belnap.specs.declared.Decision.{Decision}
 use Rattle.belnap.specs.Orders.{atOrBelow}
-use Rattle.table.specs.declared.kinds.QuestionKind.{QuestionKind}
-use Rattle.table.specs.declared.kinds.QuestionKind.the-variants.{Compare, Not, Both}
-use Rattle.table.specs.declared.entries.Entry.{Entry}
-use Rattle.table.specs.Kinds.{asQuestion}
+use Rattle.entries.specs.declared.kinds.QuestionKind.{QuestionKind}
+use Rattle.entries.specs.declared.kinds.QuestionKind.the-variants.{Compare, Not, Both}
+use Rattle.entries.specs.declared.Entry.{Entry}
+use Rattle.entries.specs.Kinds.{asQuestion}
 use Rattle.decide.specs.Rows.{valueAt}
 use Rattle.decide.specs.Meaning.{decision}
 use Rattle.possible.specs.Sets.{decisions, truths, Set, single, imageOne, imageTwo, ofMask}

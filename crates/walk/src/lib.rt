@@ -4,12 +4,11 @@ mod tables;
 
 use questions::Look;
 use table::Table;
-use table::flat;
 ghost use mathlib.Core.Path.{_≡_};
 ghost use Prim.Native.Nat.{_+_, _-_, _*_, _^_, _≤_, _<_};
 ghost use lib.ListN.{length};
-ghost use Rattle.table.specs.Entries.{predicateLimit, questionLimit};
-ghost use Rattle.table.specs.Flat.{perEntry, entriesIn};
+ghost use Rattle.table.specs.Steps.{predicateLimit, questionLimit};
+ghost use Rattle.runs.specs.Flat.{perEntry, entriesIn};
 ghost use Rattle.walk.specs.Questions.{top as topSpec};
 ghost use Rattle.walk.specs.Walk.{sees, walkFrom, walk, replyOf, countOf, plusOf};
 
@@ -127,9 +126,9 @@ pub fn verdict(t: Table, question: usize, budget: u32) -> Reply
     requires { ⌜ (question < questionLimit) × (t .predicates ≤ predicateLimit) ⌝ }
     ensures { λ r. ⌜ r ≡ replyOf budget (walk (t .rows) (t .questions) (t .predicates) question) ⌝ }
 {
-    let questions = flat::flat_questions(t, question + 1);
+    let questions = runs::flat_questions(t, question + 1);
     let top = questions::top_of(&questions, question);
-    let rows = flat::flat_rows(t, top);
+    let rows = runs::flat_rows(t, top);
     let mut sets = [0u8; Table::ROWS];
     let mut truths = [0u8; Table::QUESTIONS];
     let n = t.predicates as u32;

@@ -2,17 +2,15 @@
 // A set of truths is a mask in which true counts 1 and false 2.
 use crate::tables;
 use belnap::orders::Order;
-use table::entries;
-use table::flat;
-use table::kinds;
-use table::kinds::QuestionKind;
+use entries::kinds;
+use entries::kinds::QuestionKind;
 ghost use mathlib.Core.Bool.{true, not, _&&_};
 ghost use mathlib.Core.Path.{_≡_};
 ghost use mathlib.Core.List.{_++_, map};
 ghost use Prim.Native.Nat.{_+_, _*_, _≤_, _<_, max};
 ghost use lib.ListN.{length, drop};
-ghost use Rattle.table.specs.Entries.{numberLimit};
-ghost use Rattle.table.specs.Flat.{perEntry, entriesIn};
+ghost use Rattle.entries.specs.Entries.{numberLimit};
+ghost use Rattle.runs.specs.Flat.{perEntry, entriesIn};
 ghost use Rattle.decide.specs.Rows.{values};
 ghost use Rattle.belnap.specs.Orders.{atOrBelow};
 ghost use Rattle.possible.specs.Sets.{decisions, truths, single, imageOne, imageTwo, mask, ofMask};
@@ -85,8 +83,8 @@ pub(crate) fn truths_below(questions: &[u8], end: usize, sets: &[u8], top: usize
 {
     let mut i = 0;
     while i < end {
-        let at = flat::PER_ENTRY * i;
-        let kind = kinds::as_question(flat::kind_in(questions[at]));
+        let at = runs::PER_ENTRY * i;
+        let kind = kinds::as_question(runs::kind_in(questions[at]));
         let a = questions[at + 1];
         let b = questions[at + 2];
         let s = possible::earlier(sets, top, a);
@@ -124,8 +122,8 @@ pub(crate) fn top_of(questions: &[u8], question: usize) -> usize
     let mut tops = [0u16; entries::NUMBERS];
     let mut i = 0;
     while i <= question {
-        let at = flat::PER_ENTRY * i;
-        let kind = kinds::as_question(flat::kind_in(questions[at]));
+        let at = runs::PER_ENTRY * i;
+        let kind = kinds::as_question(runs::kind_in(questions[at]));
         let a = questions[at + 1];
         let b = questions[at + 2];
         let x = tops[entries::index(a)];

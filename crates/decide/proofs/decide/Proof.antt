@@ -7,7 +7,7 @@ use Rattle.belnap.specs.declared.Decision.the-variants.{U}
 use borrow.Author.Tests.{lt-ltb, le-ltb}
 use native.Mathlib.Omega.{arith}
 use Prim.Native.Nat.{_+_, _<_}
-use Rattle.table.specs.Entries.{rowLimit}
+use Rattle.table.specs.Steps.{rowLimit}
 use borrow.Author.Needs.{needs}
 use Rattle.decide.proofs.decide.Statement.{statement}
 use Rattle.decide.proofs.decide.Tie as tie

@@ -2,7 +2,7 @@
 use Rattle.decide.proofs.RowByRow.{turn}
 use Rattle.decide.specs.Meaning.{decides}
 use Rattle.decide.specs.Rows.{values}
-use Rattle.table.specs.Entries.{rowLimit}
+use Rattle.table.specs.Steps.{rowLimit}
 use Rattle.table.specs.Reading.{padded}
 use Rattle.belnap.specs.declared.Decision.the-variants.{U}
 use native.Mathlib.Omega.{arith}

@@ -1,6 +1,6 @@
 -- That `all_known` (src/lib.rt) keeps its promise.
 use Rattle.pierstride.proofs.KnownMasks.{known-more, known-never}
-use Rattle.table.specs.Entries.{predicateLimit}
+use Rattle.table.specs.Steps.{predicateLimit}
 use Rattle.pierstride.specs.Masks.{knownBelow}
 use native.Mathlib.Omega.{arith}
 use Prim.Native.Nat.{_≤_, _-_}

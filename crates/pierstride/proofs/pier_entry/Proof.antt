@@ -1,6 +1,6 @@
 -- That `pier_entry` (src/lib.rt) keeps its promise.
 use mathlib.Core.Path.{sym, _∙_}
-use Rattle.table.proofs.RowPart.{at-part, missing-part}
+use Rattle.lookup.proofs.RowPart.{at-part, missing-part}
 use borrow.Author.Needs.{needs}
 use Rattle.pierstride.proofs.pier_entry.Statement.{statement}
 use Rattle.pierstride.proofs.pier_entry.Tie as tie

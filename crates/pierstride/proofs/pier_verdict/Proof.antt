@@ -1,7 +1,7 @@
 -- That `pier_verdict` (src/lib.rt) keeps its promise.
 use mathlib.Core.Path.{ap, _∙_}
-use Rattle.table.specs.declared.refusals.Refusal.{Refusal}
-use Rattle.table.specs.Said.{refusing}
+use Rattle.entries.specs.declared.refusals.Refusal.{Refusal}
+use Rattle.entries.specs.Said.{refusing}
 use Rattle.table.proofs.Opening.{Opened, opened, turned}
 use Rattle.pierstride.specs.Services.{verdictOf, saysVerdict}
 use Rattle.pierstride.proofs.Serving.{passed-on, verdict-refuses, verdict-fits, verdict-answers}

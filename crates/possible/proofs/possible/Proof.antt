@@ -3,8 +3,8 @@ use Rattle.possible.proofs.SetLoop.{row-set}
 use borrow.Author.Tests.{lt-ltb, le-ltb}
 use mathlib.Core.Path.{_∙_}
 use Prim.Native.Nat.{_*_}
-use Rattle.table.specs.Entries.{rowLimit}
-use Rattle.table.specs.Flat.{perEntry}
+use Rattle.table.specs.Steps.{rowLimit}
+use Rattle.runs.specs.Flat.{perEntry}
 use borrow.Author.Needs.{needs}
 use Rattle.possible.proofs.possible.Statement.{statement}
 use Rattle.possible.proofs.possible.Tie as tie

@@ -3,7 +3,7 @@ use Rattle.possible.proofs.SetLoop.{set-turn}
 use Rattle.possible.specs.Possible.{setOf}
 use Rattle.possible.specs.Sets.{decisions, single, mask}
 use Rattle.decide.specs.Rows.{values}
-use Rattle.table.specs.Flat.{entriesIn}
+use Rattle.runs.specs.Flat.{entriesIn}
 use Rattle.belnap.specs.declared.Decision.the-variants.{U}
 use lib.ListN.{length, drop, length-set}
 use mathlib.Core.List.{_++_, map}

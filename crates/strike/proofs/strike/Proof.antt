@@ -6,7 +6,7 @@ use native.Mathlib.Omega.{arith}
 use lib.ListN.{length, getD}
 use lib.Dec.{ltb}
 use borrow.Author.Tests.{ltb-false}
-use Rattle.table.specs.Entries.{blank, sizeOf}
+use Rattle.entries.specs.Entries.{blank, sizeOf}
 use Rattle.table.specs.Reading.{contentsIn}
 use Rattle.table.proofs.Opening.{Opened, opened, turned}
 use Rattle.strike.specs.Strike.{struckBytes, shownStruck}

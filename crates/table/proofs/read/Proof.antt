@@ -5,13 +5,13 @@ use mathlib.Core.Logic.{⊎-elim}
 use Prim.Native.Nat.{ℕ, _+_, _-_, _≤_, _<_, max}
 use native.Mathlib.Omega.{arith}
 use lib.ListN.{length}
-use Rattle.table.specs.declared.entries.Entry.{Entry}
-use Rattle.table.specs.declared.refusals.Refusal.{Refusal}
-use Rattle.table.specs.Said.{answered, refusing}
-use Rattle.table.specs.Entries.{rowLimit, questionLimit}
+use Rattle.entries.specs.declared.Entry.{Entry}
+use Rattle.entries.specs.declared.refusals.Refusal.{Refusal}
+use Rattle.entries.specs.Said.{answered, refusing}
+use Rattle.table.specs.Steps.{rowLimit, questionLimit}
 use Rattle.table.specs.Reading.{shown}
-use Rattle.table.proofs.OneEntry.{size}
-use Rattle.table.proofs.Steps.{took, turned-away, step-given}
+use Rattle.entries.proofs.OneEntry.{size}
+use Rattle.table.proofs.Decoding.{took, turned-away, step-given}
 use Rattle.table.proofs.Turns.{At, start, here, inside-of, taken, room-here, row-room, row-more, question-room, question-more, bad, done}
 use borrow.Author.Needs.{needs}
 use Rattle.table.proofs.read.Statement.{statement}

@@ -4,7 +4,7 @@
 use Rattle.walk.proofs.Powers.{power-twice}
 use Rattle.walk.proofs.Replies.{count-of, held-count, no-budget, settled-true, settled-false, none-left, first-ends, second-ends}
 use Rattle.walk.specs.Walk.{sees}
-use Rattle.table.specs.Flat.{entriesIn}
+use Rattle.runs.specs.Flat.{entriesIn}
 use lib.Arith.{lt-of-le-ne}
 use native.Mathlib.Omega.{arith}
 use mathlib.Core.Logic.{⊎-elim}

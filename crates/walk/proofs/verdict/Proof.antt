@@ -3,8 +3,8 @@ use Rattle.walk.proofs.QuestionLoop.{run-walk}
 use Rattle.walk.specs.Walk.{replyOf}
 use mathlib.Core.Path.{ap, _∙_}
 use Prim.Native.Nat.{_*_}
-use Rattle.table.specs.Entries.{rowLimit, questionLimit}
-use Rattle.table.specs.Flat.{perEntry}
+use Rattle.table.specs.Steps.{rowLimit, questionLimit}
+use Rattle.runs.specs.Flat.{perEntry}
 use borrow.Author.Needs.{needs}
 use Rattle.walk.proofs.verdict.Statement.{statement}
 use Rattle.walk.proofs.verdict.Tie as tie

@@ -2,7 +2,8 @@
 use mathlib.Core.Path.{_∙_}
 use native.Mathlib.Omega.{arith}
 use Rattle.decide.specs.Meaning.{bit}
-use Rattle.belnap.specs.Operators.{negation, conflation, closedDefault, openDefault}
+use Rattle.belnap.specs.Lattice.{negation, conflation}
+use Rattle.operators.specs.Operators.{closedDefault, openDefault}
 use Rattle.possible.specs.Sets.{decisions, mask, ofMask, choosing, imageOne}
 use Rattle.possible.proofs.Words.{in-word}
 use borrow.Author.Needs.{needs}

@@ -3,7 +3,8 @@ use mathlib.Core.Path.{_∙_}
 use native.Mathlib.Omega.{arith}
 use Rattle.decide.specs.Meaning.{bit}
 use Rattle.belnap.specs.declared.Decision.the-variants.{U, D, G, C}
-use Rattle.belnap.specs.Operators.{truthMeet, truthJoin, knowledgeMeet, knowledgeJoin, implication, guard, override}
+use Rattle.belnap.specs.Lattice.{truthMeet, truthJoin, knowledgeMeet, knowledgeJoin}
+use Rattle.operators.specs.Operators.{implication, guard, override}
 use Rattle.possible.specs.Sets.{decisions, mask, ofMask, choosing, imageOne, imageTwo}
 use Rattle.possible.proofs.Words.{in-words}
 use borrow.Author.Needs.{needs}

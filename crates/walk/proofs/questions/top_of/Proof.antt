@@ -3,9 +3,9 @@ use Rattle.walk.proofs.QuestionLoop.{topOf, top-bound, top-there}
 use Rattle.walk.specs.Questions.{top}
 use Rattle.decide.proofs.RowByRow.{turn}
 use Rattle.decide.specs.Rows.{values}
-use Rattle.table.proofs.Runs.{held-at, held-small}
-use Rattle.table.specs.Entries.{numberLimit}
-use Rattle.table.specs.Flat.{entriesIn}
+use Rattle.runs.proofs.Runs.{held-at, held-small}
+use Rattle.entries.specs.Entries.{numberLimit}
+use Rattle.runs.specs.Flat.{entriesIn}
 use Rattle.table.specs.Reading.{padded}
 use lib.ListN.{getD}
 use native.Mathlib.Omega.{arith}

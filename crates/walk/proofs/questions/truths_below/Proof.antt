@@ -3,7 +3,7 @@ use Rattle.possible.specs.Sets.{truths, single, mask}
 use Rattle.possible.proofs.SetLoop.{set-turn}
 use Rattle.walk.specs.Questions.{asksSet, maskAt}
 use Rattle.decide.specs.Rows.{values}
-use Rattle.table.specs.Flat.{entriesIn}
+use Rattle.runs.specs.Flat.{entriesIn}
 use lib.ListN.{length, drop, length-set}
 use mathlib.Core.List.{_++_, map}
 use mathlib.Core.Bool.{true}

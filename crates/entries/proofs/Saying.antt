@@ -1,0 +1,19 @@
+-- Laws of what is said: a refusal's number that may stop it.
+-- Assumes nothing.
+use mathlib.Core.Path.{_≡_, refl}
+use Prim.Native.Nat.{ℕ, zero, suc, _-_}
+use native.Mathlib.Omega.{arith}
+use Rattle.entries.specs.Said.{Said, answered, refusing, refusal, unless}
+
+-- a refusal's number that may stop what is said: where it is 0, where it is not, and what an answer tells of it
+pub unless-none : {A : Type 0} (n : ℕ) (x : Said A) → n ≡ 0 → unless n x ≡ x
+unless-none zero x e = refl
+unless-none (suc n) x e = absurd (omega arith)
+
+pub unless-some : {A : Type 0} (n : ℕ) (x : Said A) → (n ≡ 0 → ⊥) → unless n x ≡ refusing (refusal n 0)
+unless-some zero x h = absurd (h refl)
+unless-some (suc n) x h = refl
+
+pub unless-answered : {A : Type 0} (n : ℕ) (x : Said A) (v : A) → unless n x ≡ answered v → (n ≡ 0) × (x ≡ answered v)
+unless-answered zero x v q = (refl, q)
+unless-answered (suc n) x v q = absurd (let z : _≡_ {A = ℕ} 0 1 = cc in omega arith)

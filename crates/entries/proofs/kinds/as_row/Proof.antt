@@ -1,0 +1,16 @@
+-- That `kinds::as_row` (src/kinds.rt) keeps its promise.
+use borrow.Author.Needs.{needs}
+use Rattle.entries.proofs.kinds.as_row.Statement.{statement}
+use Rattle.entries.proofs.kinds.as_row.Tie as tie
+
+returns-2 : tie.Need-returns-2
+returns-2 c = rw (c .enum-told .given .1)
+
+pub as-row-spec : {M : Type 1} → statement M
+as-row-spec =
+    tie.close
+    (tie.spec
+    (λ c. search needs)
+    (λ c. search needs)
+    (λ c. search needs)
+    returns-2)

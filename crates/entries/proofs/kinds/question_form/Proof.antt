@@ -1,0 +1,28 @@
+-- That `kinds::question_form` (src/kinds.rt) keeps its promise.
+use borrow.Author.Needs.{needs}
+use Rattle.entries.proofs.kinds.question_form.Statement.{statement}
+use Rattle.entries.proofs.kinds.question_form.Tie as tie
+
+returns : tie.Need-returns
+returns c = rw (c .before .before .before .kind .given .1, c .line .ensures, c .before .byte-of-order .ensures)
+
+returns-2 : tie.Need-returns-2
+returns-2 c = rw (c .before .enum-told .given .1, c .line2 .ensures)
+
+returns-3 : tie.Need-returns-3
+returns-3 c = rw (c .before .enum-told2 .given .1, c .line3 .ensures)
+
+pub question-form-spec : {M : Type 1} → statement M
+question-form-spec =
+    tie.close
+    (tie.spec
+    (λ c. search needs)
+    (λ c κs. search needs)
+    (λ c κs. search needs)
+    (λ c. search needs)
+    (λ c κs. search needs)
+    (λ c. search needs)
+    (λ c κs. search needs)
+    returns
+    returns-2
+    returns-3)

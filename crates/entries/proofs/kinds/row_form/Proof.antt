@@ -1,0 +1,42 @@
+-- That `kinds::row_form` (src/kinds.rt) keeps its promise.
+use borrow.Author.Needs.{needs}
+use Rattle.entries.proofs.kinds.row_form.Statement.{statement}
+use Rattle.entries.proofs.kinds.row_form.Tie as tie
+
+returns : tie.Need-returns
+returns c = rw (c .before .before .before .kind .given .1, c .line .ensures, c .before .code-of .ensures)
+
+returns-2 : tie.Need-returns-2
+returns-2 c = rw (c .before .enum-told .given .1, c .line2 .ensures)
+
+returns-3 : tie.Need-returns-3
+returns-3 c = rw (c .before .enum-told2 .given .1, c .line3 .ensures)
+
+returns-4 : tie.Need-returns-4
+returns-4 c = rw (c .before .before .before .kind2 .given .1, c .line4 .ensures, c .before .byte-of-one .ensures)
+
+returns-5 : tie.Need-returns-5
+returns-5 c = rw (c .before .before .before .kind3 .given .1, c .line5 .ensures, c .before .byte-of-two .ensures)
+
+pub row-form-spec : {M : Type 1} → statement M
+row-form-spec =
+    tie.close
+    (tie.spec
+    (λ c. search needs)
+    (λ c κs. search needs)
+    (λ c κs. search needs)
+    (λ c. search needs)
+    (λ c κs. search needs)
+    (λ c. search needs)
+    (λ c κs. search needs)
+    (λ c. search needs)
+    (λ c κs. search needs)
+    (λ c κs. search needs)
+    (λ c. search needs)
+    (λ c κs. search needs)
+    (λ c κs. search needs)
+    returns
+    returns-2
+    returns-3
+    returns-4
+    returns-5)

@@ -1,0 +1,58 @@
+-- One entry and its bytes (01, "The table, byte by byte").
+use Prim.Native.Nat.{ℕ, _+_}
+use mathlib.Core.Bool.{cond}
+use mathlib.Core.List.{List, [], _∷_, _++_}
+use lib.ListN.{length, take, drop}
+use lib.Dec.{leb}
+use Rattle.belnap.specs.declared.Decision.the-variants.{U}
+use Rattle.entries.specs.declared.kinds.RowKind.the-variants.{Always}
+use Rattle.entries.specs.declared.kinds.Kind.{Kind}
+use Rattle.entries.specs.declared.kinds.Kind.the-variants.{Row}
+use Rattle.entries.specs.declared.kinds.Names.{Names}
+use Rattle.entries.specs.declared.kinds.Names.the-variants.{Nothing, Predicates, Rows, Questions}
+use Rattle.entries.specs.declared.Entry.{Entry}
+use Rattle.entries.specs.Kinds.{formOf}
+
+-- "Every number in a body is one byte."
+abbrev pub numberLimit : ℕ
+numberLimit = 256
+
+-- how many numbers an entry has, and what they name
+abbrev pub numbersOf : Entry → ℕ
+numbersOf e = formOf (e .kind) .numbers
+
+abbrev pub namesOf : Entry → Names
+namesOf e = formOf (e .kind) .names
+
+-- "An entry is one byte of kind, then a body whose length the kind fixes."
+unfoldable pub bytesOf : Entry → List ℕ
+bytesOf e = formOf (e .kind) .byte ∷ take (numbersOf e) (e .a ∷ e .b ∷ [])
+
+-- how many bytes it has, and at most
+abbrev pub sizeOf : Entry → ℕ
+sizeOf e = length (bytesOf e)
+
+abbrev pub sizeLimit : ℕ
+sizeLimit = 3
+
+-- how many bytes of a body belong to an entry of a kind
+abbrev pub bodySize : Kind → ℕ
+bodySize kind = formOf kind .numbers
+
+-- what stands past the end of a list of entries: always u
+abbrev pub blank : Entry
+blank = record { kind = Row (Always U); a = 0; b = 0 }
+
+-- one more than the predicate that an entry uses; 0 if it uses none
+abbrev pub usedBy : Names → ℕ → ℕ
+usedBy Nothing a = 0
+usedBy Predicates a = a + 1
+usedBy Rows a = 0
+usedBy Questions a = 0
+
+abbrev pub uses : Entry → ℕ
+uses e = usedBy (namesOf e) (e .a)
+
+-- bytes written onto the front of an output, where they fit
+unfoldable pub onto : List ℕ → List ℕ → List ℕ
+onto bytes out = cond (leb (length bytes) (length out)) (bytes ++ drop (length bytes) out) out

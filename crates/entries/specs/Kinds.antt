@@ -1,0 +1,102 @@
+-- The table of kinds (01, "The table, byte by byte").
+use Prim.Native.Nat.{ℕ}
+use mathlib.Core.Bool.{Bool, true, false, cond}
+use mathlib.Core.List.{List, [], _∷_, _++_, map}
+use lib.Dec.{eqb}
+use Rattle.belnap.specs.declared.Decision.the-variants.{U}
+use Rattle.operators.specs.declared.OneRow.{OneRow}
+use Rattle.operators.specs.declared.OneRow.the-variants.{Negation, Conflation, ClosedDefault, OpenDefault}
+use Rattle.operators.specs.declared.TwoRow.{TwoRow}
+use Rattle.operators.specs.declared.TwoRow.the-variants.{TruthMeet, TruthJoin, KnowledgeMeet, KnowledgeJoin, Implication}
+use Rattle.operators.specs.declared.TwoRow.the-variants.{Guard, OverrideU, OverrideD, OverrideG, OverrideC}
+use Rattle.belnap.specs.declared.orders.Order.{Order}
+use Rattle.belnap.specs.declared.orders.Order.the-variants.{Truth, Knowledge}
+use Rattle.belnap.specs.Decisions.{code, everyDecision}
+use Rattle.operators.specs.Operators.{everyOneRow, everyTwoRow}
+use Rattle.belnap.specs.Orders.{everyOrder}
+use Rattle.entries.specs.declared.kinds.RowKind.{RowKind}
+use Rattle.entries.specs.declared.kinds.RowKind.the-variants.{Always, DenyIf, GrantIf, One, Two}
+use Rattle.entries.specs.declared.kinds.QuestionKind.{QuestionKind}
+use Rattle.entries.specs.declared.kinds.QuestionKind.the-variants.{Compare, Not, Both}
+use Rattle.entries.specs.declared.kinds.Kind.{Kind}
+use Rattle.entries.specs.declared.kinds.Kind.the-variants.{Row, Question}
+use Rattle.entries.specs.declared.kinds.Announced.{Announced}
+use Rattle.entries.specs.declared.kinds.Announced.the-variants.{Listed, Unlisted}
+use Rattle.entries.specs.declared.kinds.Names.{Names}
+use Rattle.entries.specs.declared.kinds.Names.the-variants.{Nothing, Predicates, Rows, Questions}
+use Rattle.entries.specs.declared.kinds.Form.{Form}
+
+-- the bytes of the operators and of the two comparisons
+abbrev pub byteOfOne : OneRow → ℕ
+byteOfOne Negation = 0x20
+byteOfOne Conflation = 0x21
+byteOfOne ClosedDefault = 0x22
+byteOfOne OpenDefault = 0x23
+
+abbrev pub byteOfTwo : TwoRow → ℕ
+byteOfTwo TruthMeet = 0x30
+byteOfTwo TruthJoin = 0x31
+byteOfTwo KnowledgeMeet = 0x32
+byteOfTwo KnowledgeJoin = 0x33
+byteOfTwo Implication = 0x34
+byteOfTwo Guard = 0x35
+byteOfTwo OverrideU = 0x38
+byteOfTwo OverrideD = 0x39
+byteOfTwo OverrideG = 0x3A
+byteOfTwo OverrideC = 0x3B
+
+abbrev pub byteOfOrder : Order → ℕ
+byteOfOrder Truth = 0x40
+byteOfOrder Knowledge = 0x41
+
+-- a line of the table: the byte that announces a kind, how many numbers its body has, and what they name
+abbrev pub formWith : ℕ → ℕ → Names → Form
+formWith byte numbers names = record { byte = byte; numbers = numbers; names = names }
+
+-- the table; the bytes 00 to 03 of "always u, d, g, c" are the decisions' codes
+abbrev pub formOf : Kind → Form
+formOf (Row (Always v)) = formWith (code v) 0 Nothing
+formOf (Row DenyIf) = formWith 0x10 1 Predicates
+formOf (Row GrantIf) = formWith 0x11 1 Predicates
+formOf (Row (One op)) = formWith (byteOfOne op) 1 Rows
+formOf (Row (Two op)) = formWith (byteOfTwo op) 2 Rows
+formOf (Question (Compare o)) = formWith (byteOfOrder o) 2 Rows
+formOf (Question Not) = formWith 0x42 1 Questions
+formOf (Question Both) = formWith 0x43 2 Questions
+
+-- every kind there is
+abbrev pub rowKinds : List RowKind
+rowKinds = map Always everyDecision ++ DenyIf ∷ GrantIf ∷ map One everyOneRow ++ map Two everyTwoRow
+
+abbrev pub questionKinds : List QuestionKind
+questionKinds = map Compare everyOrder ++ Not ∷ Both ∷ []
+
+abbrev pub kinds : List Kind
+kinds = map Row rowKinds ++ map Question questionKinds
+
+-- the kind among these that a byte announces
+abbrev pub among : List Kind → ℕ → Announced
+among [] k = Unlisted
+among (kind ∷ more) k = cond (eqb k (formOf kind .byte)) (Listed kind) (among more k)
+
+-- the kind that a byte announces
+unfoldable pub kindOf : ℕ → Announced
+kindOf k = among kinds k
+
+-- whether a kind is a row's, and whether it is a question's
+abbrev pub isRow : Kind → Bool
+isRow (Row k) = true
+isRow (Question k) = false
+
+abbrev pub isQuestion : Kind → Bool
+isQuestion (Row k) = false
+isQuestion (Question k) = true
+
+-- a question is no row: it reads as always u; a row is no question: it reads as 43, "both", of the questions with its numbers
+abbrev pub asRow : Kind → RowKind
+asRow (Row k) = k
+asRow (Question k) = Always U
+
+abbrev pub asQuestion : Kind → QuestionKind
+asQuestion (Row k) = Both
+asQuestion (Question k) = k

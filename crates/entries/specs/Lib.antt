@@ -1,0 +1,6 @@
+-- What the promises of this crate mean: refusals and what a call says, the table of kinds, one entry, and rows under new numbers.
+pub mod Refusals
+pub mod Said
+pub mod Kinds
+pub mod Entries
+pub mod Renaming

@@ -1,0 +1,96 @@
+// One entry: its bytes, what it uses and names, and the entry written into the front of a lent output. The table of kinds and the refusals
+// stand in the modules below.
+pub mod kinds;
+pub mod refusals;
+
+use crate::kinds::Kind;
+use crate::kinds::Names;
+ghost use mathlib.Core.Path.{_≡_};
+ghost use Prim.Native.Nat.{_≤_, _<_};
+ghost use Rattle.entries.specs.Entries.{numberLimit, sizeLimit, bodySize, sizeOf, uses, bytesOf, onto};
+ghost use Rattle.entries.specs.Renaming.{namesRow};
+
+// A row or a question: its kind, and its numbers; 0 for one that its kind has not.
+pub struct Entry {
+    pub kind: Kind,
+    pub a: u8,
+    pub b: u8,
+}
+
+// How many numbers one byte can be.
+pub const NUMBERS: usize = 256;
+
+pub fn index(x: u8) -> usize
+    ensures { λ r. ⌜ (r ≡ x) × (r < numberLimit) ⌝ }
+{
+    x as usize
+}
+
+// How many bytes of a body belong to an entry of a kind: one for each number.
+pub fn body_size(kind: Kind) -> usize
+    ensures { λ r. ⌜ (r ≡ bodySize kind) × (r < sizeLimit) ⌝ }
+{
+    let form = crate::kinds::form_of(kind);
+    form.numbers
+}
+
+// How many bytes an entry has.
+pub fn size_of(e: Entry) -> usize
+    ensures { λ r. ⌜ (r ≡ sizeOf e) × (r ≤ sizeLimit) ⌝ }
+{
+    let kind = e.kind;
+    body_size(kind) + 1
+}
+
+// One more than the predicate that an entry uses; 0 if it uses none.
+pub fn uses_of(e: Entry) -> usize
+    ensures { λ r. ⌜ (r ≡ uses e) × (r ≤ numberLimit) ⌝ }
+{
+    let kind = e.kind;
+    let form = crate::kinds::form_of(kind);
+    let names = form.names;
+    let a = index(e.a);
+    match names {
+        Names::Nothing => 0,
+        Names::Predicates => a + 1,
+        Names::Rows => 0,
+        Names::Questions => 0,
+    }
+}
+
+// Whether the number at place i of an entry is there and names a row.
+pub fn names_row(e: Entry, i: usize) -> bool
+    ensures { λ r. ⌜ r ≡ namesRow i e ⌝ }
+{
+    let kind = e.kind;
+    let form = crate::kinds::form_of(kind);
+    let names = form.names;
+    let numbers = form.numbers;
+    match names {
+        Names::Nothing => false,
+        Names::Predicates => false,
+        Names::Rows => i < numbers,
+        Names::Questions => false,
+    }
+}
+
+// An entry's bytes, written onto the front of a lent output where they fit; their number comes back either way.
+pub fn put(out: &mut [u8], e: Entry) -> usize
+    ensures { λ r. ⌜ (r ≡ sizeOf e) × (now (out .exit) ≡ onto (bytesOf e) (now (out .entry))) ⌝ }
+{
+    let kind = e.kind;
+    let form = crate::kinds::form_of(kind);
+    let numbers = form.numbers;
+    let size = body_size(kind);
+    if out.len() <= size {
+        return size + 1;
+    }
+    out[0] = form.byte;
+    if 0 < numbers {
+        out[1] = e.a;
+    }
+    if 1 < numbers {
+        out[2] = e.b;
+    }
+    size + 1
+}

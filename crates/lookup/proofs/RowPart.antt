@@ -1,0 +1,122 @@
+-- Where a row's bytes stand in an accepted table.
+-- Assumes nothing.
+use mathlib.Core.Path.{_≡_, refl, sym, ap, subst, _∙_}
+use mathlib.Core.Bool.{Bool, true, false}
+use mathlib.Core.List.{List, _∷_, _++_, append-assoc, append-nil}
+use Prim.Native.Nat.{ℕ, suc, _+_, _-_, _≤_, _<_}
+use native.Mathlib.Omega.{arith}
+use native.Mathlib.Numerals.{add-one}
+use native.Mathlib.Nat.{add-sub-cancel-left}
+use lib.ListN.{length, getD, take, drop, length-append}
+use lib.Seq.{split-at, take-suc, take-at, drop-at}
+use lib.Dec.{leb}
+use borrow.Author.Tests.{leb-false, lt-leb, le-leb}
+use Rattle.entries.specs.declared.refusals.Refusal.{Refusal}
+use Rattle.entries.specs.declared.Entry.{Entry}
+use Rattle.lookup.specs.declared.Part.{Part}
+use Rattle.lookup.specs.declared.Place.the-variants.{At, Missing}
+use Rattle.entries.specs.Refusals.{notThere, ifMissing}
+use Rattle.entries.specs.Said.{Said, answered, refusing, refusal, unless}
+use Rattle.entries.specs.Entries.{blank, sizeOf, bytesOf}
+use Rattle.table.specs.Steps.{rowLimit}
+use Rattle.table.specs.Contents.{Contents, written}
+use Rattle.table.specs.Reading.{reading, tableOf}
+use Rattle.lookup.specs.Lookup.{partOf, placeOf, shownPlace, partAt}
+use Rattle.table.proofs.Padding.{padded-at, padded-front}
+use Rattle.table.proofs.Writing.{written-append, written-more, of-accepted}
+
+-- one row more adds its bytes to the start of the next
+pub start-more : (es : List Entry) (i : ℕ) → i < length es → length (written (take (i + 1) es)) ≡ length (written (take i es)) + sizeOf (getD es i blank)
+start-more es i h =
+    let e = getD es i blank in
+    rw (add-one i, take-suc es i blank h, written-more (take i es) e, length-append (written (take i es)) (bytesOf e))
+
+-- so a row starts behind those before it
+pub start-is : (c : Contents) (r : ℕ) → r < length (c .rows) → partOf r c .start ≡ length (written (take r (c .rows)))
+start-is c r h = rw (append-nil (take (suc r) (c .rows)), ← add-one r) (omega (arith, start-more (c .rows) r h))
+
+-- what is said of a row that is there, and of one that is not
+pub place-there : (c : Contents) (r : ℕ) → r < length (c .rows) → placeOf (answered c) r ≡ answered (partOf r c)
+unfolding placeOf
+place-there c r h = rw (lt-leb _ _ h)
+
+pub place-missing : (c : Contents) (r : ℕ) → length (c .rows) ≤ r → placeOf (answered c) r ≡ refusing (refusal notThere 0)
+unfolding placeOf
+place-missing c r h = rw (le-leb _ _ h)
+
+-- the part, from the struct of an accepted table
+pub found-part : (c : Contents) (r start n : ℕ) → r < length (c .rows) → start ≡ length (written (take r (tableOf c .rows))) →
+    n ≡ sizeOf (getD (tableOf c .rows) r blank) → _≡_ {A = Part} (record { start = start; length = n }) (partOf r c)
+unfolding tableOf
+found-part c r start n h p q =
+    let front = padded-front blank rowLimit (c .rows) r (omega arith) in
+    let at = padded-at blank rowLimit (c .rows) r in
+    rw (p, q, front, at, start-is c r h)
+
+-- what a place tells of the reading
+pub place-tells : (x : Said Contents) (r : ℕ) (part : Part) → placeOf x r ≡ answered part →
+    (c : Contents) × (x ≡ answered c) × (r < length (c .rows)) × (partOf r c ≡ part)
+unfolding placeOf
+place-tells (answered c) r part q = go (leb (length (c .rows)) r) refl q
+  where
+    go : (b : Bool) → leb (length (c .rows)) r ≡ b → unless (ifMissing b) (answered (partOf r c)) ≡ answered part →
+        (d : Contents) × (answered c ≡ answered d) × (r < length (d .rows)) × (partOf r d ≡ part)
+    go true e q = absurd (let z : _≡_ {A = ℕ} 0 1 = cc in omega arith)
+    go false e q = (c, refl, leb-false _ _ e, cc)
+place-tells (refusing why) r part q = absurd (let z : _≡_ {A = ℕ} 0 1 = cc in omega arith)
+
+-- the bytes of an accepted table, taken apart at a row
+module _ (s : List ℕ) (c : Contents) (r : ℕ) (q : reading s ≡ answered c) (h : r < length (c .rows)) where
+  abbrev pub own : List ℕ
+  own = bytesOf (getD (c .rows) r blank)
+
+  abbrev pub front : List ℕ
+  front = written (take r (c .rows))
+
+  abbrev pub back : List ℕ
+  back = written (drop (suc r) (c .rows)) ++ written (c .questions)
+
+  pub around : front ++ (own ++ back) ≡ s
+  unfolding written
+  around =
+      let rows : written (c .rows) ≡ front ++ (own ++ written (drop (suc r) (c .rows))) =
+      ap written (split-at (c .rows) r blank h) ∙ written-append (take r (c .rows)) (getD (c .rows) r blank ∷ drop (suc r) (c .rows)) in
+      rw (rows, append-assoc, append-assoc) at (sym (written-append (c .rows) (c .questions)) ∙ of-accepted s c q .1)
+
+  -- the row's part lies inside, and holds the row's own bytes
+  pub part-fits : partOf r c .start + partOf r c .length ≤ length s
+  part-fits = omega (arith, start-is c r h, ap length around, length-append front (own ++ back), length-append own back)
+
+  pub part-own : partAt (answered (partOf r c)) s ≡ own
+  unfolding partAt
+  part-own = rw (start-is c r h, ← around, drop-at front (own ++ back) (length front) refl, take-at own back (length own) refl)
+
+-- "Asking for row r gives back that entry's own bytes"
+pub own-bytes : (s : List ℕ) (c : Contents) (r : ℕ) → reading s ≡ answered c → r < length (c .rows) →
+    partAt (placeOf (reading s) r) s ≡ bytesOf (getD (c .rows) r blank)
+own-bytes s c r q h = rw (q, place-there c r h) (part-own s c r q h)
+
+-- a part that is lent: it lies inside, and holds what the definition says
+pub record Lent (s : List ℕ) (r : ℕ) (part : Part) : Type 0 where
+  pub inside : part .start + part .length ≤ length s
+  pub holds : take (part .start + part .length - part .start) (drop (part .start) s) ≡ partAt (placeOf (reading s) r) s
+
+pub lent : (s : List ℕ) (r : ℕ) (part : Part) → placeOf (reading s) r ≡ answered part → Lent s r part
+unfolding partAt
+lent s r part q =
+    let o = place-tells (reading s) r part q in
+    record {
+      inside = subst (λ (p : Part). p .start + p .length ≤ length s) (o .3) (part-fits s (o .0) r (o .1) (o .2));
+      holds = rw (q, add-sub-cancel-left (part .start) (part .length));
+    }
+
+-- what was said, from the place that shows it
+pub at-part : (x : Said Part) (part : Part) → shownPlace x ≡ At part → x ≡ answered part
+unfolding shownPlace
+at-part (answered other) part q = cc
+at-part (refusing why) part q = absurd (let z : _≡_ {A = ℕ} 0 1 = cc in omega arith)
+
+pub missing-part : (x : Said Part) (why : Refusal) → shownPlace x ≡ Missing why → x ≡ refusing why
+unfolding shownPlace
+missing-part (answered part) why q = absurd (let z : _≡_ {A = ℕ} 0 1 = cc in omega arith)
+missing-part (refusing other) why q = cc

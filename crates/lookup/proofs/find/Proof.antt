@@ -1,0 +1,85 @@
+-- That `find` (src/lib.rt) keeps its promise.
+use mathlib.Core.Path.{_≡_, ap, _∙_}
+use mathlib.Core.List.{List}
+use Prim.Native.Nat.{ℕ}
+use native.Mathlib.Omega.{arith}
+use lib.ListN.{length, getD, take}
+use Rattle.entries.specs.declared.Entry.{Entry}
+use Rattle.table.specs.declared.Table.{Table}
+use Rattle.lookup.specs.declared.Place.the-variants.{At}
+use Rattle.entries.specs.Entries.{blank, sizeOf}
+use Rattle.table.specs.Steps.{rowLimit}
+use Rattle.table.specs.Contents.{written}
+use Rattle.table.specs.Reading.{tableOf}
+use Rattle.lookup.specs.Lookup.{placeOf, shownPlace}
+use Rattle.table.proofs.Padding.{padded-length}
+use Rattle.table.proofs.Opening.{Opened, opened, turned}
+use Rattle.lookup.proofs.RowPart.{place-there, place-missing, found-part}
+use borrow.Author.Needs.{needs}
+use Rattle.lookup.proofs.find.Statement.{statement}
+use Rattle.lookup.proofs.find.Tie as tie
+
+-- once the table was read: the row asked for, what the reading stands for, and how many rows there are
+abbrev row-at : tie.After-enum-told → ℕ
+row-at c = c .before .before .before .before .args .row
+
+open-at : (c : tie.After-enum-told) → Opened (c .before .before .before .before .args .table .now) (c .before .before .read .result)
+open-at c =
+    opened (c .before .before .before .before .args .table .now) (c .before .before .read .result) (c .before .before .read .ensures) (c .enum-told .given .1)
+
+used : (c : tie.After-enum-told) → c .before .before .read .result .table .tally .rows ≡ length (open-at c .contents .rows)
+unfolding tableOf
+used c = ap (λ (t : Table). t .tally .rows) (open-at c .table)
+
+returns : tie.Need-returns
+unfolding placeOf shownPlace
+returns c =
+    let told = c .before in
+    let got = told .before .before in
+    rw (turned (got .before .before .args .table .now) (got .read .result) (got .read .ensures) (told .enum-told2 .given .1))
+
+returns-2 : tie.Need-returns-2
+unfolding shownPlace
+returns-2 c =
+    let told = c .before .before .before in
+    let o = open-at told in
+    rw (o .is, place-missing (o .contents) (row-at told) (rw (used told) at (c .before .if1 .taken)), c .of .ensures)
+
+element-copy-out-e : tie.Need-element-copy-out-e
+element-copy-out-e c = omega (arith, rw (used (c .before .before)) at (c .if1 .left), open-at (c .before .before) .whole .rows-fit)
+
+start-of-requires : tie.Need-start-of-requires
+unfolding tableOf
+start-of-requires c κs =
+    let told = c .before .before .before in
+    let o = open-at told in
+    let long = padded-length blank rowLimit (o .contents .rows) (o .whole .rows-fit) in
+    (omega (arith, rw (used told) at (c .before .if1 .left), o .whole .rows-fit), omega (arith, long, ap (λ (t : Table). length (t .rows)) (o .table)))
+
+returns-3 : tie.Need-returns-3
+unfolding shownPlace
+returns-3 c =
+    let told = c .before .before .before .before .before in
+    let row = row-at told in
+    let o = open-at told in
+    let rows = ap (λ (t : Table). t .rows) (o .table) in
+    let start = c .before .start-of .ensures .0 ∙ ap (λ (es : List Entry). length (written (take row es))) rows in
+    let size = c .size-of .ensures .0 ∙ ap (λ (es : List Entry). sizeOf (getD es row blank)) rows in
+    let there = rw (used told) at (c .before .before .before .if1 .left) in
+    rw (o .is, place-there (o .contents) row there) (ap At (found-part (o .contents) row (c .before .start-of .result) (c .size-of .result) there start size))
+
+pub find-spec : {M : Type 1} → statement M
+find-spec =
+    tie.close
+    (tie.spec
+    (λ c κs. search needs)
+    (λ c. search needs)
+    (λ c. search needs)
+    returns
+    (λ c κs. search needs)
+    returns-2
+    (λ c. search needs)
+    element-copy-out-e
+    start-of-requires
+    (λ c κs. search needs)
+    returns-3)

@@ -1,0 +1,37 @@
+-- One row taken out of a table (01, "Taking one entry, and striking a row").
+use Prim.Native.Nat.{ℕ, suc, _-_}
+use mathlib.Core.List.{List, []}
+use lib.ListN.{length, getD, take, drop}
+use lib.Dec.{leb}
+use Rattle.lookup.specs.declared.Part.{Part}
+use Rattle.lookup.specs.declared.Place.{Place}
+use Rattle.lookup.specs.declared.Place.the-variants.{At, Missing}
+use Rattle.entries.specs.Refusals.{ifMissing}
+use Rattle.entries.specs.Said.{Said, answered, refusing, andThen, unless}
+use Rattle.entries.specs.Entries.{blank, sizeOf}
+use Rattle.table.specs.Contents.{Contents, encoded}
+
+-- the table that ends with row r: the row's own bytes are its last
+abbrev pub endingWith : ℕ → Contents → Contents
+endingWith r c = record { rows = take (suc r) (c .rows); questions = [] }
+
+abbrev pub partOf : ℕ → Contents → Part
+partOf r c = let size = sizeOf (getD (c .rows) r blank) in record { start = length (encoded (endingWith r c)) - size; length = size }
+
+-- where row r's own bytes stand, or why they do not: reading's own refusal, then 8 at 0
+unfoldable pub placeOf : Said Contents → ℕ → Said Part
+placeOf x r = andThen x (λ c. unless (ifMissing (leb (length (c .rows)) r)) (answered (partOf r c)))
+
+unfoldable pub shownPlace : Said Part → Place
+shownPlace (answered part) = At part
+shownPlace (refusing why) = Missing why
+
+-- where the part at a place starts; 0 where there is none
+abbrev pub startAt : Said Part → ℕ
+startAt (answered part) = part .start
+startAt (refusing why) = 0
+
+-- "Asking for row r gives back that entry's own bytes …; a refusal gives an empty part"
+unfoldable pub partAt : Said Part → List ℕ → List ℕ
+partAt (answered part) table = take (part .length) (drop (part .start) table)
+partAt (refusing why) table = []

@@ -1,0 +1,90 @@
+// One row out of a table's bytes: where it stands, the row's own part of the slice, and why there is none.
+use entries::refusals;
+use entries::refusals::Refusal;
+use table::Outcome;
+use table::Table;
+ghost use mathlib.Core.Path.{_≡_};
+ghost use Prim.Native.Nat.{_+_, _*_, _≤_, _<_};
+ghost use lib.ListN.{length, take};
+ghost use Rattle.entries.specs.Entries.{sizeLimit};
+ghost use Rattle.table.specs.Steps.{rowLimit};
+ghost use Rattle.entries.specs.Said.{whyOf};
+ghost use Rattle.table.specs.Reading.{reading};
+ghost use Rattle.table.specs.Contents.{written};
+ghost use Rattle.lookup.specs.Lookup.{placeOf, shownPlace, startAt, partAt};
+
+// Where a part of a table starts, and how many bytes it has.
+pub struct Part {
+    pub start: usize,
+    pub length: usize,
+}
+
+// A row's own part of a table, or a refusal.
+pub enum Place {
+    At(Part),
+    Missing(Refusal),
+}
+
+// Where the bytes of a row start: behind those of the rows before it.
+fn start_of(t: Table, row: usize) -> usize
+    requires { ⌜ (row ≤ rowLimit) × (rowLimit ≤ length (t .rows)) ⌝ }
+    ensures { λ r. ⌜ (r ≡ length (written (take row (t .rows)))) × (r ≤ sizeLimit * rowLimit) ⌝ }
+{
+    let mut start = 0;
+    let mut i = 0;
+    while i < row {
+        let e = t.rows[i];
+        start = start + entries::size_of(e);
+        i += 1;
+    }
+    start
+}
+
+// Where row `row` of a table stands, from the table's bytes on.
+pub fn find(table: &[u8], row: u32) -> Place
+    ensures { λ r. ⌜ r ≡ shownPlace (placeOf (reading (now (table .entry))) row) ⌝ }
+{
+    let got = table::read(table);
+    let outcome = got.outcome;
+    let Outcome::Read = outcome else {
+        let why = got.why;
+        return Place::Missing(why);
+    };
+    let t = got.table;
+    let at = row as usize;
+    if t.tally.rows <= at {
+        return Place::Missing(Refusal::of(refusals::NOT_THERE));
+    }
+    let e = t.rows[at];
+    Place::At(Part {
+        start: start_of(t, at),
+        length: entries::size_of(e),
+    })
+}
+
+// The row's own bytes, as a part of the table that starts at the row's kind byte; an empty part where there is none.
+pub fn entry(table: &[u8], row: u32) -> &[u8]
+    ensures part { λ r. ⌜ now r ≡ partAt (placeOf (reading (now (table .entry))) row) (now (table .entry)) ⌝ }
+    ensures place { λ r. ⌜ (r .ptr .0 ≡ table .entry .ptr .0) × (r .ptr .1 ≡ table .entry .ptr .1 + startAt (placeOf (reading (now (table .entry))) row)) ⌝ }
+{
+    let found = find(table, row);
+    match found {
+        Place::At(part) => {
+            let start = part.start;
+            let end = start + part.length;
+            &table[start..end]
+        }
+        Place::Missing(_) => &table[..0],
+    }
+}
+
+// Why `entry` on the same table and number gives an empty part; its number is 0 where it does not.
+pub fn entry_refusal(table: &[u8], row: u32) -> Refusal
+    ensures { λ r. ⌜ r ≡ whyOf (placeOf (reading (now (table .entry))) row) ⌝ }
+{
+    let found = find(table, row);
+    match found {
+        Place::At(_) => Refusal::of(0),
+        Place::Missing(why) => why,
+    }
+}

@@ -1,0 +1,2 @@
+-- What the promises of this crate mean: the operators.
+pub mod Operators

@@ -1,0 +1,3 @@
+-- Laws of runs; below this file, a folder for each function that has a proof of its own.
+pub mod Runs
+pub mod Unique

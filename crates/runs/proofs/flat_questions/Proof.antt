@@ -1,0 +1,55 @@
+-- That `flat_questions` (src/lib.rt) keeps its promise.
+use Rattle.runs.proofs.Runs.{flat-turn}
+use Rattle.runs.specs.Flat.{perEntry, upTo, flat}
+use Rattle.entries.specs.declared.kinds.Form.{Form}
+use Rattle.table.specs.Steps.{questionLimit}
+use Rattle.table.specs.Reading.{padded}
+use native.Mathlib.Omega.{arith}
+use Prim.Native.Nat.{_*_, _-_, _≤_}
+use mathlib.Core.Path.{_≡_, refl, ap}
+use borrow.Author.Needs.{needs}
+use Rattle.runs.proofs.flat_questions.Statement.{statement}
+use Rattle.runs.proofs.flat_questions.Tie as tie
+
+abbrev Inv-loop : tie.InvT-loop
+Inv-loop end t run₀ i₀ run i = (i ≤ end) × (run ≡ padded 0 (perEntry * questionLimit) (flat (upTo (t .questions) i)))
+
+abbrev μ-loop : tie.MeasureT-loop
+μ-loop end t run₀ i₀ run i = end - i
+
+loop-holds : tie.Need-loop-holds Inv-loop μ-loop
+unfolding upTo flat
+loop-holds c = (omega arith, refl)
+
+loop-again : tie.Need-loop-again Inv-loop μ-loop
+loop-again c =
+    let at = c .before .before .before in
+    let byte = ap (λ (f : Form). f .byte) (c .form-of .ensures) in (
+      omega arith,
+      flat-turn (at .before .args .t1 .questions) (perEntry * questionLimit) (at .loop .i) (c .form-of .result .byte) (at .loop .run) (omega arith)
+          (at .loop .inv .1) byte,
+    )
+
+returns : tie.Need-returns Inv-loop μ-loop
+returns c = let q : c .before .loop .i ≡ c .before .before .args .end = omega arith in rw q at (c .before .loop .inv .1)
+
+pub flat-questions-spec : {M : Type 1} → statement M
+flat-questions-spec =
+    tie.close
+    (tie.spec
+    Inv-loop
+    μ-loop
+    loop-holds
+    (λ c. search needs)
+    (λ c. search needs)
+    (λ c. search needs)
+    (λ c κs. search needs)
+    (λ c. search needs)
+    (λ c. search needs)
+    (λ c. search needs)
+    (λ c. search needs)
+    (λ c. search needs)
+    (λ c. search needs)
+    (λ c. search needs)
+    loop-again
+    returns)

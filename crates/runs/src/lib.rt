@@ -1,0 +1,70 @@
+// A table's entries as a run of numbers, three an entry: its kind byte and its two numbers. A slice of these can be lent to a loop.
+use belnap::Decision;
+use entries::kinds;
+use entries::kinds::Announced;
+use entries::kinds::Kind;
+use entries::kinds::RowKind;
+use table::Table;
+ghost use mathlib.Core.Path.{_≡_};
+ghost use Prim.Native.Nat.{_*_, _≤_};
+ghost use Rattle.table.specs.Steps.{rowLimit, questionLimit};
+ghost use Rattle.table.specs.Reading.{padded};
+ghost use Rattle.runs.specs.Flat.{perEntry, upTo, flat, kindIn};
+
+// How many numbers an entry has in a run, and how many a run of all rows and a run of all questions hold.
+pub const PER_ENTRY: usize = 3;
+
+pub const ROWS: usize = PER_ENTRY * Table::ROWS;
+
+pub const QUESTIONS: usize = PER_ENTRY * Table::QUESTIONS;
+
+// The kind that a byte announces; a byte that announces none reads as always u.
+pub fn kind_in(byte: u8) -> Kind
+    ensures { λ r. ⌜ r ≡ kindIn byte ⌝ }
+{
+    let announced = kinds::kind_of(byte);
+    match announced {
+        Announced::Listed(kind) => kind,
+        Announced::Unlisted => Kind::Row(RowKind::Always(Decision::U)),
+    }
+}
+
+// The rows below a number.
+pub fn flat_rows(t: Table, end: usize) -> [u8; ROWS]
+    requires { ⌜ end ≤ rowLimit ⌝ }
+    ensures { λ r. ⌜ r ≡ padded 0 (perEntry * rowLimit) (flat (upTo (t .rows) end)) ⌝ }
+{
+    let mut run = [0u8; ROWS];
+    let mut i = 0;
+    while i < end {
+        let e = t.rows[i];
+        let kind = e.kind;
+        let at = PER_ENTRY * i;
+        let form = kinds::form_of(kind);
+        run[at] = form.byte;
+        run[at + 1] = e.a;
+        run[at + 2] = e.b;
+        i += 1;
+    }
+    run
+}
+
+// The questions below a number.
+pub fn flat_questions(t: Table, end: usize) -> [u8; QUESTIONS]
+    requires { ⌜ end ≤ questionLimit ⌝ }
+    ensures { λ r. ⌜ r ≡ padded 0 (perEntry * questionLimit) (flat (upTo (t .questions) end)) ⌝ }
+{
+    let mut run = [0u8; QUESTIONS];
+    let mut i = 0;
+    while i < end {
+        let e = t.questions[i];
+        let kind = e.kind;
+        let at = PER_ENTRY * i;
+        let form = kinds::form_of(kind);
+        run[at] = form.byte;
+        run[at + 1] = e.a;
+        run[at + 2] = e.b;
+        i += 1;
+    }
+    run
+}

@@ -1,0 +1,107 @@
+-- The limits, what bytes are decoded to, and whether an entry may stand in a table behind so many rows and questions
+-- (01, "The table, byte by byte" and "When we say no").
+use Prim.Native.Nat.{ℕ, _+_}
+use mathlib.Core.Bool.{Bool, true, cond, _&&_}
+use mathlib.Core.List.{List}
+use lib.ListN.{length, getD}
+use lib.Dec.{ltb}
+use Rattle.entries.specs.declared.kinds.Kind.{Kind}
+use Rattle.entries.specs.declared.kinds.Kind.the-variants.{Row, Question}
+use Rattle.entries.specs.declared.kinds.Announced.{Announced}
+use Rattle.entries.specs.declared.kinds.Announced.the-variants.{Listed, Unlisted}
+use Rattle.entries.specs.declared.kinds.Names.{Names}
+use Rattle.entries.specs.declared.kinds.Names.the-variants.{Nothing, Predicates, Rows, Questions}
+use Rattle.entries.specs.declared.Entry.{Entry}
+use Rattle.table.specs.declared.steps.Tally.{Tally}
+use Rattle.table.specs.declared.steps.Decoded.{Decoded}
+use Rattle.table.specs.declared.steps.Decoded.the-variants.{Unknown, Cut, Full}
+use Rattle.table.specs.declared.steps.Step.{Step}
+use Rattle.table.specs.declared.steps.Step.the-variants.{Took, Bad}
+use Rattle.entries.specs.Refusals.{unlisted, cutShort, predicateTooHigh, notToBeNamed, rowAfterQuestion, tooManyRows, tooManyQuestions}
+use Rattle.entries.specs.Said.{Said, answered, refusing, refusal, unless}
+use Rattle.entries.specs.Kinds.{kindOf, formOf}
+use Rattle.entries.specs.Entries.{numbersOf, namesOf, bodySize}
+
+-- "Limits: predicates 0 to 23; 256 rows; 64 questions"
+abbrev pub predicateLimit : ℕ
+predicateLimit = 24
+
+abbrev pub rowLimit : ℕ
+rowLimit = 256
+
+abbrev pub questionLimit : ℕ
+questionLimit = 64
+
+-- the number at a place of a body of so many numbers; 0 where there is none
+abbrev pub numberAt : ℕ → ℕ → List ℕ → ℕ
+numberAt numbers i body = cond (ltb i numbers) (getD body i 0) 0
+
+-- what the bytes behind a kind byte are: the body is cut short, or they begin with it
+unfoldable pub bodyOf : Kind → List ℕ → Decoded
+bodyOf kind body =
+    let numbers = formOf kind .numbers in
+    cond (ltb (length body) (bodySize kind)) (Cut kind) (Full (record { kind = kind; a = numberAt numbers 0 body; b = numberAt numbers 1 body }))
+
+abbrev pub decodedBy : Announced → List ℕ → Decoded
+decodedBy Unlisted body = Unknown
+decodedBy (Listed kind) body = bodyOf kind body
+
+-- what a kind byte and the bytes behind it are
+unfoldable pub decoded : ℕ → List ℕ → Decoded
+decoded k body = decodedBy (kindOf k) body
+
+-- so many rows and questions, and with an entry of a kind more
+abbrev pub tally : ℕ → ℕ → Tally
+tally rows questions = record { rows = rows; questions = questions }
+
+abbrev pub oneMore : Kind → Tally → Tally
+oneMore (Row k) before = tally (before .rows + 1) (before .questions)
+oneMore (Question k) before = tally (before .rows) (before .questions + 1)
+
+-- 5, 6 and 7; 0 where there is room for an entry of a kind behind so many rows and questions
+unfoldable pub noRoom : Kind → Tally → ℕ
+noRoom (Row k) before = cond (ltb 0 (before .questions)) rowAfterQuestion (cond (ltb (before .rows) rowLimit) 0 tooManyRows)
+noRoom (Question k) before = cond (ltb (before .questions) questionLimit) 0 tooManyQuestions
+
+-- "A row may name only rows with a lower number; 42 and 43 only lower questions; 40 and 41 any row of the table": at a question all rows are read already,
+-- since 5 keeps rows before questions
+abbrev pub limit : Names → Tally → ℕ
+limit Nothing before = 0
+limit Predicates before = predicateLimit
+limit Rows before = before .rows
+limit Questions before = before .questions
+
+-- each number that is there is below the limit
+abbrev pub namedAt : ℕ → ℕ → ℕ → ℕ → Bool
+namedAt numbers below i x = cond (ltb i numbers) (ltb x below) true
+
+abbrev pub named : Entry → Tally → Bool
+named e before = namedAt (numbersOf e) (limit (namesOf e) before) 0 (e .a) && namedAt (numbersOf e) (limit (namesOf e) before) 1 (e .b)
+
+-- 3, a predicate above 23; 4, a number that may not be named there
+abbrev pub misnamed : Names → ℕ
+misnamed Nothing = notToBeNamed
+misnamed Predicates = predicateTooHigh
+misnamed Rows = notToBeNamed
+misnamed Questions = notToBeNamed
+
+unfoldable pub misnaming : Entry → Tally → ℕ
+misnaming e before = cond (named e before) 0 (misnamed (namesOf e))
+
+-- whether an entry may stand there: 5, 6 and 7, then 3 and 4
+unfoldable pub permitted : Entry → Tally → Said Entry
+permitted e before = unless (noRoom (e .kind) before) (unless (misnaming e before) (answered e))
+
+-- 1, kind not listed; 2, the body is cut short, behind 5, 6 and 7. A refusal's place is counted from the kind byte.
+unfoldable pub judged : Decoded → Tally → Said Entry
+judged Unknown before = refusing (refusal unlisted 0)
+judged (Cut kind) before = unless (noRoom kind before) (refusing (refusal cutShort 0))
+judged (Full e) before = permitted e before
+
+-- the entry whose kind byte is k, followed by these bytes
+unfoldable pub stepOf : ℕ → List ℕ → Tally → Said Entry
+stepOf k body before = judged (decoded k body) before
+
+unfoldable pub shownStep : Said Entry → Step
+shownStep (answered e) = Took e
+shownStep (refusing why) = Bad why

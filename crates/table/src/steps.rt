@@ -1,0 +1,209 @@
+// One step of reading: what the bytes from a place on are, and whether an entry may stand in a table there.
+use crate::Table;
+use entries::Entry;
+use entries::kinds;
+use entries::kinds::Announced;
+use entries::kinds::Kind;
+use entries::kinds::Names;
+use entries::refusals;
+use entries::refusals::Refusal;
+ghost use mathlib.Core.Path.{_≡_};
+ghost use Prim.Native.Nat.{_+_, _≤_, _<_};
+ghost use lib.ListN.{length, getD, drop};
+ghost use Rattle.entries.specs.Said.{refusal};
+ghost use Rattle.table.specs.Steps.{oneMore, noRoom, limit, misnamed, numberAt, namedAt, misnaming};
+ghost use Rattle.table.specs.Steps.{bodyOf, decoded, permitted, judged, stepOf, shownStep};
+
+// So many rows and questions.
+pub struct Tally {
+    pub rows: usize,
+    pub questions: usize,
+}
+
+// What the bytes from a kind byte on are: of no listed kind, of a kind whose body is cut short, or an entry.
+pub enum Decoded {
+    Unknown,
+    Cut(Kind),
+    Full(Entry),
+}
+
+// What stands at a place: an entry, or a refusal whose place is counted from the kind byte.
+pub enum Step {
+    Took(Entry),
+    Bad(Refusal),
+}
+
+// So many rows and questions with an entry of a kind more, for which there is room.
+pub(crate) fn one_more(kind: Kind, before: Tally) -> Tally
+    requires { ⌜ noRoom kind before ≡ 0 ⌝ }
+    ensures { λ r. ⌜ r ≡ oneMore kind before ⌝ }
+{
+    let mut more = before;
+    match kind {
+        Kind::Row(_) => {
+            more.rows = before.rows + 1;
+        }
+        Kind::Question(_) => {
+            more.questions = before.questions + 1;
+        }
+    }
+    more
+}
+
+// 5, 6 or 7 where there is no room for an entry of a kind, else 0.
+fn no_room(kind: Kind, before: Tally) -> u8
+    ensures { λ r. ⌜ r ≡ noRoom kind before ⌝ }
+{
+    match kind {
+        Kind::Row(_) => {
+            if 0 < before.questions {
+                return refusals::ROW_AFTER_QUESTION;
+            }
+            if before.rows < Table::ROWS {
+                0
+            } else {
+                refusals::TOO_MANY_ROWS
+            }
+        }
+        Kind::Question(_) => {
+            if before.questions < Table::QUESTIONS {
+                0
+            } else {
+                refusals::TOO_MANY_QUESTIONS
+            }
+        }
+    }
+}
+
+// What a number must be below, by what it names.
+fn limit_of(names: Names, before: Tally) -> usize
+    ensures { λ r. ⌜ r ≡ limit names before ⌝ }
+{
+    match names {
+        Names::Nothing => 0,
+        Names::Predicates => Table::PREDICATES,
+        Names::Rows => before.rows,
+        Names::Questions => before.questions,
+    }
+}
+
+// The refusal of a number that is not below its limit.
+fn misnamed_of(names: Names) -> u8
+    ensures { λ r. ⌜ r ≡ misnamed names ⌝ }
+{
+    match names {
+        Names::Nothing => refusals::NOT_TO_BE_NAMED,
+        Names::Predicates => refusals::PREDICATE_TOO_HIGH,
+        Names::Rows => refusals::NOT_TO_BE_NAMED,
+        Names::Questions => refusals::NOT_TO_BE_NAMED,
+    }
+}
+
+// Whether the number at place i is below its limit, or not there.
+fn named_at(numbers: usize, below: usize, i: usize, x: u8) -> bool
+    ensures { λ r. ⌜ r ≡ namedAt numbers below i x ⌝ }
+{
+    if i < numbers {
+        entries::index(x) < below
+    } else {
+        true
+    }
+}
+
+// 3 or 4 where an entry names what it may not, else 0.
+fn misnaming_of(e: Entry, before: Tally) -> u8
+    ensures { λ r. ⌜ r ≡ misnaming e before ⌝ }
+{
+    let kind = e.kind;
+    let form = kinds::form_of(kind);
+    let names = form.names;
+    let numbers = form.numbers;
+    let below = limit_of(names, before);
+    if named_at(numbers, below, 0, e.a) & named_at(numbers, below, 1, e.b) {
+        0
+    } else {
+        misnamed_of(names)
+    }
+}
+
+// The number at place i of the body behind a kind byte; 0 where the body has none.
+fn number_at(s: &[u8], at: usize, numbers: usize, i: usize) -> u8
+    requires { ⌜ (at + numbers < length (now s)) × (i < 2) ⌝ }
+    ensures { λ r. ⌜ r ≡ numberAt numbers i (drop (at + 1) (now (s .entry))) ⌝ }
+{
+    if i < numbers { s[at + 1 + i] } else { 0 }
+}
+
+// The body of an entry of a listed kind, whose kind byte stands at a place.
+fn body_at(kind: Kind, s: &[u8], at: usize) -> Decoded
+    requires { ⌜ at < length (now s) ⌝ }
+    ensures { λ r. ⌜ r ≡ bodyOf kind (drop (at + 1) (now (s .entry))) ⌝ }
+{
+    let form = kinds::form_of(kind);
+    let numbers = form.numbers;
+    if s.len() - at <= entries::body_size(kind) {
+        return Decoded::Cut(kind);
+    }
+    let a = number_at(s, at, numbers, 0);
+    let b = number_at(s, at, numbers, 1);
+    Decoded::Full(Entry { kind, a, b })
+}
+
+// What the bytes from a kind byte on are.
+fn decode(s: &[u8], at: usize) -> Decoded
+    requires { ⌜ at < length (now s) ⌝ }
+    ensures { λ r. ⌜ r ≡ decoded (getD (now (s .entry)) at 0) (drop (at + 1) (now (s .entry))) ⌝ }
+{
+    let announced = kinds::kind_of(s[at]);
+    match announced {
+        Announced::Listed(kind) => body_at(kind, s, at),
+        Announced::Unlisted => Decoded::Unknown,
+    }
+}
+
+// A refusal at the kind byte.
+fn bad(number: u8) -> Step
+    ensures { λ r. ⌜ r ≡ Step.Bad (refusal number 0) ⌝ }
+{
+    Step::Bad(Refusal::of(number))
+}
+
+// Whether an entry may stand behind so many rows and questions.
+pub(crate) fn permit(e: Entry, before: Tally) -> Step
+    ensures { λ r. ⌜ r ≡ shownStep (permitted e before) ⌝ }
+{
+    let kind = e.kind;
+    let full = no_room(kind, before);
+    if full != 0 {
+        return bad(full);
+    }
+    let wrong = misnaming_of(e, before);
+    if wrong != 0 {
+        return bad(wrong);
+    }
+    Step::Took(e)
+}
+
+// An entry whose body is cut short: its room is asked for first.
+fn cut_short(kind: Kind, before: Tally) -> Step
+    ensures { λ r. ⌜ r ≡ shownStep (judged (Decoded.Cut kind) before) ⌝ }
+{
+    let full = no_room(kind, before);
+    if full != 0 {
+        return bad(full);
+    }
+    bad(refusals::CUT_SHORT)
+}
+
+// The entry whose kind byte stands at a place, behind so many rows and questions.
+pub(crate) fn step_at(s: &[u8], at: usize, before: Tally) -> Step
+    requires { ⌜ at < length (now s) ⌝ }
+    ensures { λ r. ⌜ r ≡ shownStep (stepOf (getD (now (s .entry)) at 0) (drop (at + 1) (now (s .entry))) before) ⌝ }
+{
+    let found = decode(s, at);
+    match found {
+        Decoded::Unknown => bad(refusals::UNLISTED),
+        Decoded::Cut(kind) => cut_short(kind, before),
+        Decoded::Full(e) => permit(e, before),
+    }
+}
