@@ -11,11 +11,11 @@ use Rattle.belnap.specs.declared.Decision.{Decision}
 use Rattle.belnap.specs.declared.Decision.the-variants.{U}
 use Rattle.operators.specs.Operators.{one, two}
 use Rattle.belnap.proofs.Finite.{or-left, or-right, or-part}
-use Rattle.entries.specs.declared.kinds.RowKind.{RowKind}
-use Rattle.entries.specs.declared.kinds.RowKind.the-variants.{Always, DenyIf, GrantIf, One, Two}
-use Rattle.entries.specs.declared.kinds.Kind.the-variants.{Row}
+use Rattle.kinds.specs.declared.RowKind.{RowKind}
+use Rattle.kinds.specs.declared.RowKind.the-variants.{Always, DenyIf, GrantIf, One, Two}
+use Rattle.kinds.specs.declared.Kind.the-variants.{Row}
 use Rattle.entries.specs.declared.Entry.{Entry}
-use Rattle.entries.specs.Kinds.{formOf, asRow}
+use Rattle.kinds.specs.Kinds.{formOf, asRow}
 use Rattle.entries.specs.Entries.{blank, usedBy}
 use Rattle.entries.proofs.Numbers.{by-order}
 use Rattle.table.specs.Contents.{Covers}

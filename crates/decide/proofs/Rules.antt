@@ -11,17 +11,17 @@ use Rattle.belnap.specs.declared.Decision.{Decision}
 use Rattle.belnap.specs.declared.Decision.the-variants.{U}
 use Rattle.operators.specs.Operators.{one, two}
 use Rattle.belnap.proofs.Finite.{both-parts}
-use Rattle.entries.specs.declared.kinds.RowKind.{RowKind}
-use Rattle.entries.specs.declared.kinds.RowKind.the-variants.{Always, DenyIf, GrantIf, One, Two}
-use Rattle.entries.specs.declared.kinds.Kind.{Kind}
-use Rattle.entries.specs.declared.kinds.Kind.the-variants.{Row}
+use Rattle.kinds.specs.declared.RowKind.{RowKind}
+use Rattle.kinds.specs.declared.RowKind.the-variants.{Always, DenyIf, GrantIf, One, Two}
+use Rattle.kinds.specs.declared.Kind.{Kind}
+use Rattle.kinds.specs.declared.Kind.the-variants.{Row}
 use Rattle.entries.specs.Said.{answered}
-use Rattle.entries.specs.Kinds.{asRow}
+use Rattle.kinds.specs.Kinds.{asRow}
 use Rattle.entries.specs.Entries.{blank}
 use Rattle.table.specs.Steps.{tally, named}
 use Rattle.table.specs.Contents.{Contents}
 use Rattle.table.specs.Reading.{reading}
-use Rattle.entries.proofs.KindTable.{is-row}
+use Rattle.kinds.proofs.KindTable.{is-row}
 use Rattle.table.proofs.Laws.{row-sound}
 use Rattle.decide.specs.Rows.{valueAt}
 use Rattle.decide.specs.Meaning.{decideBy, decides, decision}

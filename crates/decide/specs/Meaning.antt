@@ -6,10 +6,10 @@ use lib.Dec.{eqb, ltb}
 use Rattle.belnap.specs.declared.Decision.{Decision}
 use Rattle.belnap.specs.declared.Decision.the-variants.{U, D, G}
 use Rattle.operators.specs.Operators.{one, two}
-use Rattle.entries.specs.declared.kinds.RowKind.{RowKind}
-use Rattle.entries.specs.declared.kinds.RowKind.the-variants.{Always, DenyIf, GrantIf, One, Two}
+use Rattle.kinds.specs.declared.RowKind.{RowKind}
+use Rattle.kinds.specs.declared.RowKind.the-variants.{Always, DenyIf, GrantIf, One, Two}
 use Rattle.entries.specs.declared.Entry.{Entry}
-use Rattle.entries.specs.Kinds.{asRow}
+use Rattle.kinds.specs.Kinds.{asRow}
 use Rattle.table.specs.Steps.{rowLimit}
 use Rattle.decide.specs.Rows.{valueAt}
 

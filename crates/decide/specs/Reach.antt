@@ -3,10 +3,10 @@ use Prim.Native.Nat.{ℕ}
 use mathlib.Core.Bool.{Bool, false, _||_}
 use mathlib.Core.List.{List}
 use lib.Dec.{eqb}
-use Rattle.entries.specs.declared.kinds.RowKind.{RowKind}
-use Rattle.entries.specs.declared.kinds.RowKind.the-variants.{Always, DenyIf, GrantIf, One, Two}
+use Rattle.kinds.specs.declared.RowKind.{RowKind}
+use Rattle.kinds.specs.declared.RowKind.the-variants.{Always, DenyIf, GrantIf, One, Two}
 use Rattle.entries.specs.declared.Entry.{Entry}
-use Rattle.entries.specs.Kinds.{asRow}
+use Rattle.kinds.specs.Kinds.{asRow}
 use Rattle.decide.specs.Rows.{valueAt}
 
 -- its own predicate, and what the rows that it names reach

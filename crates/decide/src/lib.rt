@@ -1,7 +1,6 @@
 // What a row decides at a complete request.
 use belnap::Decision;
-use entries::kinds;
-use entries::kinds::RowKind;
+use kinds::RowKind;
 use table::Table;
 ghost use mathlib.Core.Path.{_≡_};
 ghost use Prim.Native.Nat.{_≤_};

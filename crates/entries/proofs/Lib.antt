@@ -1,6 +1,5 @@
--- Laws of what is said, of the table of kinds and of one entry; below this file, a folder for each function that has a proof of its own.
+-- Laws of what is said and of one entry; below this file, a folder for each function that has a proof of its own.
 pub mod Numbers
-pub mod KindTable
 pub mod OneEntry
 pub mod Saying
 pub mod Unique

@@ -4,10 +4,6 @@
 use Rattle.belnap.specs.One.{One, OneOutput}
 use Rattle.belnap.proofs.Unique.{by-definition}
 use Rattle.entries.proofs.refusals.Refusal.of.Reads as refusal
-use Rattle.entries.proofs.kinds.kind_of.Reads as kind_of
-use Rattle.entries.proofs.kinds.form_of.Reads as form_of
-use Rattle.entries.proofs.kinds.as_row.Reads as asRow
-use Rattle.entries.proofs.kinds.as_question.Reads as asQuestion
 use Rattle.entries.proofs.index.Reads as index
 use Rattle.entries.proofs.body_size.Reads as body_size
 use Rattle.entries.proofs.size_of.Reads as size_of
@@ -17,18 +13,6 @@ use Rattle.entries.proofs.put.Reads as put
 
 pub one-own : One refusal.Post
 one-own κs args exit = by-definition
-
-pub one-announced : One kind_of.Post
-one-announced κs args exit = by-definition
-
-pub one-form : One form_of.Post
-one-form κs args exit = by-definition
-
-pub one-row-kind : One asRow.Post
-one-row-kind κs args exit = by-definition
-
-pub one-question-kind : One asQuestion.Post
-one-question-kind κs args exit = by-definition
 
 pub one-index : One index.Post
 one-index κs args exit a b p q = by-definition a b (p .0) (q .0)

@@ -5,13 +5,13 @@ use mathlib.Core.List.{List, [], _∷_, _++_}
 use lib.ListN.{length, take, drop}
 use lib.Dec.{leb}
 use Rattle.belnap.specs.declared.Decision.the-variants.{U}
-use Rattle.entries.specs.declared.kinds.RowKind.the-variants.{Always}
-use Rattle.entries.specs.declared.kinds.Kind.{Kind}
-use Rattle.entries.specs.declared.kinds.Kind.the-variants.{Row}
-use Rattle.entries.specs.declared.kinds.Names.{Names}
-use Rattle.entries.specs.declared.kinds.Names.the-variants.{Nothing, Predicates, Rows, Questions}
+use Rattle.kinds.specs.declared.RowKind.the-variants.{Always}
+use Rattle.kinds.specs.declared.Kind.{Kind}
+use Rattle.kinds.specs.declared.Kind.the-variants.{Row}
+use Rattle.kinds.specs.declared.Names.{Names}
+use Rattle.kinds.specs.declared.Names.the-variants.{Nothing, Predicates, Rows, Questions}
 use Rattle.entries.specs.declared.Entry.{Entry}
-use Rattle.entries.specs.Kinds.{formOf}
+use Rattle.kinds.specs.Kinds.{formOf}
 
 -- "Every number in a body is one byte."
 abbrev pub numberLimit : ℕ

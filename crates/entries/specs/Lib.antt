@@ -1,6 +1,5 @@
--- What the promises of this crate mean: refusals and what a call says, the table of kinds, one entry, and rows under new numbers.
+-- What the promises of this crate mean: refusals and what a call says, one entry, and rows under new numbers.
 pub mod Refusals
 pub mod Said
-pub mod Kinds
 pub mod Entries
 pub mod Renaming

@@ -1,10 +1,8 @@
-// One entry: its bytes, what it uses and names, and the entry written into the front of a lent output. The table of kinds and the refusals
-// stand in the modules below.
-pub mod kinds;
+// One entry: its bytes, what it uses and names, and the entry written into the front of a lent output. The refusals stand in the module below.
 pub mod refusals;
 
-use crate::kinds::Kind;
-use crate::kinds::Names;
+use kinds::Kind;
+use kinds::Names;
 ghost use mathlib.Core.Path.{_≡_};
 ghost use Prim.Native.Nat.{_≤_, _<_};
 ghost use Rattle.entries.specs.Entries.{numberLimit, sizeLimit, bodySize, sizeOf, uses, bytesOf, onto};
@@ -30,7 +28,7 @@ pub fn index(x: u8) -> usize
 pub fn body_size(kind: Kind) -> usize
     ensures { λ r. ⌜ (r ≡ bodySize kind) × (r < sizeLimit) ⌝ }
 {
-    let form = crate::kinds::form_of(kind);
+    let form = kinds::form_of(kind);
     form.numbers
 }
 
@@ -47,7 +45,7 @@ pub fn uses_of(e: Entry) -> usize
     ensures { λ r. ⌜ (r ≡ uses e) × (r ≤ numberLimit) ⌝ }
 {
     let kind = e.kind;
-    let form = crate::kinds::form_of(kind);
+    let form = kinds::form_of(kind);
     let names = form.names;
     let a = index(e.a);
     match names {
@@ -63,7 +61,7 @@ pub fn names_row(e: Entry, i: usize) -> bool
     ensures { λ r. ⌜ r ≡ namesRow i e ⌝ }
 {
     let kind = e.kind;
-    let form = crate::kinds::form_of(kind);
+    let form = kinds::form_of(kind);
     let names = form.names;
     let numbers = form.numbers;
     match names {
@@ -79,7 +77,7 @@ pub fn put(out: &mut [u8], e: Entry) -> usize
     ensures { λ r. ⌜ (r ≡ sizeOf e) × (now (out .exit) ≡ onto (bytesOf e) (now (out .entry))) ⌝ }
 {
     let kind = e.kind;
-    let form = crate::kinds::form_of(kind);
+    let form = kinds::form_of(kind);
     let numbers = form.numbers;
     let size = body_size(kind);
     if out.len() <= size {

@@ -35,15 +35,15 @@ fn text(bytes: &[u8]) {
     io::write_all(STDOUT_FILENO, bytes);
 }
 
-fn number(n: u64) {
+// A number behind its name.
+fn field(name: &[u8], n: u64) {
+    text(name);
     io::print_decimal(STDOUT_FILENO, n);
 }
 
 fn refused(refusal: u32, place: usize) {
-    text(b"refused ");
-    number(refusal as u64);
-    text(b" at ");
-    number(place as u64);
+    field(b"refused ", refusal as u64);
+    field(b" at ", place as u64);
     text(b"\n");
 }
 
@@ -56,12 +56,9 @@ fn reads(name: &[u8], table: &[u8]) {
         refused(c.refusal, c.place);
         return;
     }
-    text(b"accepted, rows ");
-    number(c.rows as u64);
-    text(b" questions ");
-    number(c.questions as u64);
-    text(b" predicates ");
-    number(c.predicates as u64);
+    field(b"accepted, rows ", c.rows as u64);
+    field(b" questions ", c.questions as u64);
+    field(b" predicates ", c.predicates as u64);
     text(b"\n");
 }
 
@@ -75,16 +72,14 @@ fn sets(name: &[u8], row: u32, known: u32, request: u32) {
         refused(s.refusal, s.place);
         return;
     }
-    text(b"set ");
-    number(s.set as u64);
+    field(b"set ", s.set as u64);
     text(b"\n");
 }
 
 // The verdict on a question.
 fn asks(name: &[u8], table: &[u8], question: u32, budget: u32) {
     text(name);
-    text(b", budget ");
-    number(budget as u64);
+    field(b", budget ", budget as u64);
     text(b": ");
     let v = pierstride::pier_verdict(table, question, budget);
     if v.refusal != 0 {
@@ -94,13 +89,11 @@ fn asks(name: &[u8], table: &[u8], question: u32, budget: u32) {
     if v.reply == pierstride::HOLDS {
         text(b"holds");
     } else if v.reply == pierstride::FAILS {
-        text(b"fails, mask ");
-        number(v.request as u64);
+        field(b"fails, mask ", v.request as u64);
     } else {
         text(b"unfinished");
     }
-    text(b", count ");
-    number(v.visits as u64);
+    field(b", count ", v.visits as u64);
     text(b"\n");
 }
 
@@ -119,8 +112,7 @@ fn bytes(part: &[u8]) {
 
 // Striking a row of the strike cases' table.
 fn strikes(row: u32) {
-    text(b"00 02 20 01 40 01 02, strike ");
-    number(row as u64);
+    field(b"00 02 20 01 40 01 02, strike ", row as u64);
     text(b":");
     let s = S;
     let mut out = [0u8; 7];
@@ -144,8 +136,7 @@ fn strikes(row: u32) {
 // A row's own bytes, or why there are none.
 fn takes(name: &[u8], table: &[u8], row: u32) {
     text(name);
-    text(b", row ");
-    number(row as u64);
+    field(b", row ", row as u64);
     text(b":");
     let why = lookup::entry_refusal(table, row);
     if why.number != 0 {
@@ -168,15 +159,15 @@ fn one_question_more() {
     reads(b"00 and 65 times 40 00 00", &table);
 }
 
-fn main() {
-    let a = A;
-    let s = S;
-    let zeros = [0u8; 257];
+// Table A: what is possible, and the verdict.
+fn table_a(a: &[u8]) {
     sets(b"A, row 2, predicate 0 known yes", 2, 1, 1);
     sets(b"A, row 2, both known yes", 2, 3, 3);
-    asks(b"A, question 2", &a, 2, 4);
-    asks(b"A, question 2", &a, 2, 5);
-    reads(b"empty table", &zeros[..0]);
+    asks(b"A, question 2", a, 2, 4);
+    asks(b"A, question 2", a, 2, 5);
+}
+
+fn short_tables() {
     reads(b"12", b"\x12");
     reads(b"11", b"\x11");
     reads(b"11 17", b"\x11\x17");
@@ -184,19 +175,36 @@ fn main() {
     reads(b"20 00", b"\x20\x00");
     reads(b"33 00", b"\x33\x00");
     reads(b"00 40 00 00 00", b"\x00\x40\x00\x00\x00");
-    reads(b"256 bytes of 00", &zeros[..256]);
-    reads(b"257 bytes of 00", &zeros);
-    one_question_more();
+}
+
+fn strike_cases() {
+    let s = S;
     strikes(0);
     strikes(1);
     strikes(3);
     asks(b"00 02 20 01 40 01 02, question 0", &s, 0, 1000000);
     asks(b"00 02 20 01 40 01 02, question 0", &s, 0, 0);
-    takes(b"A", &a, 0);
-    takes(b"A", &a, 2);
-    takes(b"A", &a, 3);
-    takes(b"A", &a, 5);
-    takes(b"A", &a, 6);
+}
+
+fn rows_taken(a: &[u8]) {
+    takes(b"A", a, 0);
+    takes(b"A", a, 2);
+    takes(b"A", a, 3);
+    takes(b"A", a, 5);
+    takes(b"A", a, 6);
     takes(b"00 40 00 00 00", b"\x00\x40\x00\x00\x00", 0);
+}
+
+fn main() {
+    let a = A;
+    let zeros = [0u8; 257];
+    table_a(&a);
+    reads(b"empty table", &zeros[..0]);
+    short_tables();
+    reads(b"256 bytes of 00", &zeros[..256]);
+    reads(b"257 bytes of 00", &zeros);
+    one_question_more();
+    strike_cases();
+    rows_taken(&a);
     takes(b"empty table", &zeros[..0], 0);
 }

@@ -15,7 +15,7 @@ use Rattle.belnap.specs.Decisions.{code, coded}
 use Rattle.belnap.proofs.Codes.{coded-code}
 use Rattle.belnap.proofs.Finite.{never}
 use Rattle.entries.specs.Said.{answered}
-use Rattle.entries.specs.Kinds.{asRow}
+use Rattle.kinds.specs.Kinds.{asRow}
 use Rattle.entries.specs.Entries.{blank}
 use Rattle.table.specs.Contents.{Contents, predicates}
 use Rattle.table.specs.Reading.{reading}

@@ -8,7 +8,7 @@ use Rattle.belnap.specs.declared.Decision.{Decision}
 use Rattle.belnap.specs.declared.Decision.the-variants.{U, D, G, C}
 use Rattle.belnap.specs.Lattice.{conflation, truthMeet, truthJoin, knowledgeMeet, knowledgeJoin}
 use Rattle.operators.specs.Operators.{openDefault, implication, guard, override}
-use Rattle.entries.specs.Kinds.{kindOf}
+use Rattle.kinds.specs.Kinds.{kindOf}
 use Rattle.entries.specs.Said.{Said, answered, refusing}
 use Rattle.entries.specs.Entries.{bytesOf}
 use Rattle.table.specs.Steps.{bodyOf, decoded, noRoom, misnaming, permitted, judged, stepOf}

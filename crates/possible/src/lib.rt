@@ -3,8 +3,7 @@ pub mod sets;
 mod tables;
 
 use belnap::Decision;
-use entries::kinds;
-use entries::kinds::RowKind;
+use kinds::RowKind;
 use table::Table;
 ghost use mathlib.Core.Path.{_≡_};
 ghost use mathlib.Core.List.{_++_, map};

@@ -8,11 +8,11 @@ use native.Mathlib.Numerals.{add-one}
 use lib.ListN.{length, getD, set, replicate, length-append, List·getD-append}
 use lib.Seq.{getD-at}
 use Rattle.entries.specs.declared.Entry.{Entry}
-use Rattle.entries.specs.Kinds.{formOf, kindOf}
+use Rattle.kinds.specs.Kinds.{formOf, kindOf}
 use Rattle.entries.specs.Entries.{numberLimit, blank}
 use Rattle.table.specs.Reading.{padded}
 use Rattle.runs.specs.Flat.{upTo, flat, kindIn, entriesIn}
-use Rattle.entries.proofs.KindTable.{kind-of-byte}
+use Rattle.kinds.proofs.KindTable.{kind-of-byte}
 use Rattle.entries.proofs.Numbers.{by-order}
 use Rattle.table.proofs.Padding.{padded-more}
 

@@ -3,13 +3,13 @@ use Prim.Native.Nat.{ℕ, zero, suc}
 use mathlib.Core.List.{List, [], _∷_, _++_}
 use lib.ListN.{getD}
 use Rattle.belnap.specs.declared.Decision.the-variants.{U}
-use Rattle.entries.specs.declared.kinds.Kind.{Kind}
-use Rattle.entries.specs.declared.kinds.RowKind.the-variants.{Always}
-use Rattle.entries.specs.declared.kinds.Kind.the-variants.{Row}
-use Rattle.entries.specs.declared.kinds.Announced.{Announced}
-use Rattle.entries.specs.declared.kinds.Announced.the-variants.{Listed, Unlisted}
+use Rattle.kinds.specs.declared.Kind.{Kind}
+use Rattle.kinds.specs.declared.RowKind.the-variants.{Always}
+use Rattle.kinds.specs.declared.Kind.the-variants.{Row}
+use Rattle.kinds.specs.declared.Announced.{Announced}
+use Rattle.kinds.specs.declared.Announced.the-variants.{Listed, Unlisted}
 use Rattle.entries.specs.declared.Entry.{Entry}
-use Rattle.entries.specs.Kinds.{formOf, kindOf}
+use Rattle.kinds.specs.Kinds.{formOf, kindOf}
 use Rattle.entries.specs.Entries.{blank}
 
 -- how many numbers an entry has in a run

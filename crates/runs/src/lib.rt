@@ -1,9 +1,8 @@
 // A table's entries as a run of numbers, three an entry: its kind byte and its two numbers. A slice of these can be lent to a loop.
 use belnap::Decision;
-use entries::kinds;
-use entries::kinds::Announced;
-use entries::kinds::Kind;
-use entries::kinds::RowKind;
+use kinds::Announced;
+use kinds::Kind;
+use kinds::RowKind;
 use table::Table;
 ghost use mathlib.Core.Path.{_≡_};
 ghost use Prim.Native.Nat.{_*_, _≤_};

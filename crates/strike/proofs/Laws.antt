@@ -9,7 +9,7 @@ use native.Mathlib.Omega.{arith}
 use lib.ListN.{length, getD, length-map, List·getD-append}
 use lib.Seq.{getD-append-add}
 use Rattle.entries.specs.Said.{Said, answered}
-use Rattle.entries.specs.Kinds.{isRow, isQuestion}
+use Rattle.kinds.specs.Kinds.{isRow, isQuestion}
 use Rattle.entries.specs.Entries.{blank}
 use Rattle.table.specs.Steps.{tally}
 use Rattle.table.specs.Contents.{Contents, predicates, entries}

@@ -8,9 +8,9 @@ use native.Mathlib.Omega.{arith}
 use lib.ListN.{length}
 use lib.Dec.{ltb}
 use borrow.Author.Tests.{ltb-true, ltb-false, lt-ltb, le-ltb}
-use Rattle.entries.specs.declared.kinds.Kind.{Kind}
-use Rattle.entries.specs.declared.kinds.Announced.{Announced}
-use Rattle.entries.specs.declared.kinds.Announced.the-variants.{Listed, Unlisted}
+use Rattle.kinds.specs.declared.Kind.{Kind}
+use Rattle.kinds.specs.declared.Announced.{Announced}
+use Rattle.kinds.specs.declared.Announced.the-variants.{Listed, Unlisted}
 use Rattle.entries.specs.declared.Entry.{Entry}
 use Rattle.table.specs.declared.steps.Tally.{Tally}
 use Rattle.table.specs.declared.steps.Decoded.{Decoded}
@@ -19,10 +19,10 @@ use Rattle.table.specs.declared.steps.Step.the-variants.{Took, Bad}
 use Rattle.entries.specs.declared.refusals.Refusal.{Refusal}
 use Rattle.entries.specs.Refusals.{unlisted, cutShort}
 use Rattle.entries.specs.Said.{Said, answered, refusing, refusal, unless}
-use Rattle.entries.specs.Kinds.{kindOf, formOf}
+use Rattle.kinds.specs.Kinds.{kindOf, formOf}
 use Rattle.entries.specs.Entries.{numbersOf}
 use Rattle.table.specs.Steps.{numberAt, bodyOf, decodedBy, decoded, noRoom, misnaming, permitted, judged, stepOf, shownStep}
-use Rattle.entries.proofs.KindTable.{byte-of-kind}
+use Rattle.kinds.proofs.KindTable.{byte-of-kind}
 use Rattle.entries.proofs.Saying.{unless-answered}
 use Rattle.table.proofs.Permission.{Allowed, allowed-if, Given, given, unless-given, room-given, misnaming-given}
 

@@ -11,17 +11,17 @@ use lib.Dec.{ltb}
 use borrow.Author.Tests.{ltb-true}
 use Rattle.belnap.proofs.Finite.{both-parts}
 use Rattle.entries.specs.declared.refusals.Refusal.{Refusal}
-use Rattle.entries.specs.declared.kinds.RowKind.the-variants.{Always, DenyIf, GrantIf, One, Two}
-use Rattle.entries.specs.declared.kinds.QuestionKind.the-variants.{Compare, Not, Both}
-use Rattle.entries.specs.declared.kinds.Kind.{Kind}
-use Rattle.entries.specs.declared.kinds.Kind.the-variants.{Row, Question}
-use Rattle.entries.specs.declared.kinds.Announced.{Announced}
-use Rattle.entries.specs.declared.kinds.Announced.the-variants.{Listed, Unlisted}
+use Rattle.kinds.specs.declared.RowKind.the-variants.{Always, DenyIf, GrantIf, One, Two}
+use Rattle.kinds.specs.declared.QuestionKind.the-variants.{Compare, Not, Both}
+use Rattle.kinds.specs.declared.Kind.{Kind}
+use Rattle.kinds.specs.declared.Kind.the-variants.{Row, Question}
+use Rattle.kinds.specs.declared.Announced.{Announced}
+use Rattle.kinds.specs.declared.Announced.the-variants.{Listed, Unlisted}
 use Rattle.entries.specs.declared.Entry.{Entry}
 use Rattle.table.specs.declared.steps.Tally.{Tally}
 use Rattle.entries.specs.Refusals.{cutShort, ofReading, isAmong}
 use Rattle.entries.specs.Said.{answered, refusing, refusal, unless}
-use Rattle.entries.specs.Kinds.{kindOf, formOf, asRow}
+use Rattle.kinds.specs.Kinds.{kindOf, formOf, asRow}
 use Rattle.entries.specs.Entries.{sizeLimit, bodySize, blank, bytesOf, uses, usedBy}
 use Rattle.table.specs.Steps.{tally, predicateLimit, rowLimit, questionLimit}
 use Rattle.table.specs.Steps.{numberAt, bodyOf, decodedBy, decoded, noRoom, named, misnaming, permitted, judged, stepOf}

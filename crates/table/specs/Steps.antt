@@ -5,12 +5,12 @@ use mathlib.Core.Bool.{Bool, true, cond, _&&_}
 use mathlib.Core.List.{List}
 use lib.ListN.{length, getD}
 use lib.Dec.{ltb}
-use Rattle.entries.specs.declared.kinds.Kind.{Kind}
-use Rattle.entries.specs.declared.kinds.Kind.the-variants.{Row, Question}
-use Rattle.entries.specs.declared.kinds.Announced.{Announced}
-use Rattle.entries.specs.declared.kinds.Announced.the-variants.{Listed, Unlisted}
-use Rattle.entries.specs.declared.kinds.Names.{Names}
-use Rattle.entries.specs.declared.kinds.Names.the-variants.{Nothing, Predicates, Rows, Questions}
+use Rattle.kinds.specs.declared.Kind.{Kind}
+use Rattle.kinds.specs.declared.Kind.the-variants.{Row, Question}
+use Rattle.kinds.specs.declared.Announced.{Announced}
+use Rattle.kinds.specs.declared.Announced.the-variants.{Listed, Unlisted}
+use Rattle.kinds.specs.declared.Names.{Names}
+use Rattle.kinds.specs.declared.Names.the-variants.{Nothing, Predicates, Rows, Questions}
 use Rattle.entries.specs.declared.Entry.{Entry}
 use Rattle.table.specs.declared.steps.Tally.{Tally}
 use Rattle.table.specs.declared.steps.Decoded.{Decoded}
@@ -19,7 +19,7 @@ use Rattle.table.specs.declared.steps.Step.{Step}
 use Rattle.table.specs.declared.steps.Step.the-variants.{Took, Bad}
 use Rattle.entries.specs.Refusals.{unlisted, cutShort, predicateTooHigh, notToBeNamed, rowAfterQuestion, tooManyRows, tooManyQuestions}
 use Rattle.entries.specs.Said.{Said, answered, refusing, refusal, unless}
-use Rattle.entries.specs.Kinds.{kindOf, formOf}
+use Rattle.kinds.specs.Kinds.{kindOf, formOf}
 use Rattle.entries.specs.Entries.{numbersOf, namesOf, bodySize}
 
 -- "Limits: predicates 0 to 23; 256 rows; 64 questions"

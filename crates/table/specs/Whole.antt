@@ -4,10 +4,10 @@ use mathlib.Core.Path.{_≡_}
 use mathlib.Core.Bool.{Bool, true}
 use mathlib.Core.List.{List, [], _∷_}
 use lib.ListN.{length}
-use Rattle.entries.specs.declared.kinds.Kind.{Kind}
+use Rattle.kinds.specs.declared.Kind.{Kind}
 use Rattle.entries.specs.declared.Entry.{Entry}
 use Rattle.table.specs.declared.steps.Tally.{Tally}
-use Rattle.entries.specs.Kinds.{isRow, isQuestion}
+use Rattle.kinds.specs.Kinds.{isRow, isQuestion}
 use Rattle.entries.specs.Entries.{numbersOf}
 use Rattle.table.specs.Steps.{tally, rowLimit, questionLimit, numberAt, named}
 use Rattle.table.specs.Contents.{Contents}

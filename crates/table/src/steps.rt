@@ -1,12 +1,11 @@
 // One step of reading: what the bytes from a place on are, and whether an entry may stand in a table there.
 use crate::Table;
 use entries::Entry;
-use entries::kinds;
-use entries::kinds::Announced;
-use entries::kinds::Kind;
-use entries::kinds::Names;
 use entries::refusals;
 use entries::refusals::Refusal;
+use kinds::Announced;
+use kinds::Kind;
+use kinds::Names;
 ghost use mathlib.Core.Path.{_≡_};
 ghost use Prim.Native.Nat.{_+_, _≤_, _<_};
 ghost use lib.ListN.{length, getD, drop};

@@ -9,12 +9,12 @@ use Prim.Native.Nat.{ℕ, zero, suc, _+_, _-_, _^_, _≤_}
 use native.Mathlib.Omega.{arith}
 use lib.ListN.{getD}
 use Rattle.belnap.proofs.Finite.{never}
-use Rattle.entries.specs.declared.kinds.QuestionKind.{QuestionKind}
-use Rattle.entries.specs.declared.kinds.QuestionKind.the-variants.{Compare, Not, Both}
-use Rattle.entries.specs.declared.kinds.Kind.{Kind}
-use Rattle.entries.specs.declared.kinds.Kind.the-variants.{Row, Question}
+use Rattle.kinds.specs.declared.QuestionKind.{QuestionKind}
+use Rattle.kinds.specs.declared.QuestionKind.the-variants.{Compare, Not, Both}
+use Rattle.kinds.specs.declared.Kind.{Kind}
+use Rattle.kinds.specs.declared.Kind.the-variants.{Row, Question}
 use Rattle.entries.specs.declared.Entry.{Entry}
-use Rattle.entries.specs.Kinds.{isQuestion, asQuestion}
+use Rattle.kinds.specs.Kinds.{isQuestion, asQuestion}
 use Rattle.entries.specs.Entries.{blank}
 use Rattle.entries.specs.Renaming.{namesRow, renamed}
 use Rattle.entries.proofs.Numbers.{by-order}

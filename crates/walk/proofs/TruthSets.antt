@@ -8,10 +8,10 @@ use Prim.Native.Nat.{ℕ, _<_}
 use lib.ListN.{getD}
 use Rattle.belnap.specs.declared.Decision.{Decision}
 use Rattle.belnap.specs.Orders.{atOrBelow}
-use Rattle.entries.specs.declared.kinds.QuestionKind.{QuestionKind}
-use Rattle.entries.specs.declared.kinds.QuestionKind.the-variants.{Compare, Not, Both}
+use Rattle.kinds.specs.declared.QuestionKind.{QuestionKind}
+use Rattle.kinds.specs.declared.QuestionKind.the-variants.{Compare, Not, Both}
 use Rattle.entries.specs.declared.Entry.{Entry}
-use Rattle.entries.specs.Kinds.{asQuestion}
+use Rattle.kinds.specs.Kinds.{asQuestion}
 use Rattle.entries.specs.Entries.{blank}
 use Rattle.table.specs.Contents.{Covers}
 use Rattle.decide.specs.Meaning.{bit}

@@ -5,10 +5,10 @@ use mathlib.Core.List.{List}
 use lib.ListN.{getD, take}
 use Rattle.belnap.specs.declared.Decision.{Decision}
 use Rattle.belnap.specs.Orders.{atOrBelow}
-use Rattle.entries.specs.declared.kinds.QuestionKind.{QuestionKind}
-use Rattle.entries.specs.declared.kinds.QuestionKind.the-variants.{Compare, Not, Both}
+use Rattle.kinds.specs.declared.QuestionKind.{QuestionKind}
+use Rattle.kinds.specs.declared.QuestionKind.the-variants.{Compare, Not, Both}
 use Rattle.entries.specs.declared.Entry.{Entry}
-use Rattle.entries.specs.Kinds.{asQuestion}
+use Rattle.kinds.specs.Kinds.{asQuestion}
 use Rattle.decide.specs.Rows.{valueAt}
 use Rattle.decide.specs.Meaning.{decision}
 use Rattle.possible.specs.Sets.{decisions, truths, Set, single, imageOne, imageTwo, ofMask}

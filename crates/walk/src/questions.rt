@@ -2,8 +2,7 @@
 // A set of truths is a mask in which true counts 1 and false 2.
 use crate::tables;
 use belnap::orders::Order;
-use entries::kinds;
-use entries::kinds::QuestionKind;
+use kinds::QuestionKind;
 ghost use mathlib.Core.Bool.{true, not, _&&_};
 ghost use mathlib.Core.Path.{_≡_};
 ghost use mathlib.Core.List.{_++_, map};

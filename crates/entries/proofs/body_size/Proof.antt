@@ -1,7 +1,7 @@
 -- That `body_size` (src/lib.rt) keeps its promise.
 use mathlib.Core.Path.{ap}
 use native.Mathlib.Omega.{arith}
-use Rattle.entries.specs.declared.kinds.Form.{Form}
+use Rattle.kinds.specs.declared.Form.{Form}
 use Rattle.entries.proofs.OneEntry.{few}
 use borrow.Author.Needs.{needs}
 use Rattle.entries.proofs.body_size.Statement.{statement}

@@ -3,7 +3,7 @@ use mathlib.Core.Path.{_≡_, ap, _∙_}
 use mathlib.Core.Logic.{⊎-elim}
 use native.Mathlib.Omega.{arith}
 use lib.ListN.{length, length-set}
-use Rattle.entries.specs.declared.kinds.Form.{Form}
+use Rattle.kinds.specs.declared.Form.{Form}
 use Rattle.entries.proofs.OneEntry.{size, onto-short, put-all}
 use borrow.Author.Needs.{needs}
 use Rattle.entries.proofs.put.Statement.{statement}

@@ -1,7 +1,7 @@
 -- That `flat_questions` (src/lib.rt) keeps its promise.
 use Rattle.runs.proofs.Runs.{flat-turn}
 use Rattle.runs.specs.Flat.{perEntry, upTo, flat}
-use Rattle.entries.specs.declared.kinds.Form.{Form}
+use Rattle.kinds.specs.declared.Form.{Form}
 use Rattle.table.specs.Steps.{questionLimit}
 use Rattle.table.specs.Reading.{padded}
 use native.Mathlib.Omega.{arith}

@@ -3,7 +3,7 @@ use mathlib.Core.Path.{sym, ap}
 use Prim.Native.Nat.{_≤_, _<_, _-_, _+_}
 use native.Mathlib.Omega.{arith}
 use lib.ListN.{length, drop, length-drop}
-use Rattle.entries.specs.declared.kinds.Form.{Form}
+use Rattle.kinds.specs.declared.Form.{Form}
 use Rattle.entries.specs.Entries.{bodySize}
 use Rattle.table.proofs.Decoding.{body-cut, body-whole}
 use borrow.Author.Needs.{needs}

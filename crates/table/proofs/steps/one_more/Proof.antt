@@ -1,6 +1,6 @@
 -- That `steps::one_more` (src/steps.rt) keeps its promise.
 use native.Mathlib.Omega.{arith}
-use Rattle.entries.specs.declared.kinds.Kind.the-variants.{Row, Question}
+use Rattle.kinds.specs.declared.Kind.the-variants.{Row, Question}
 use Rattle.table.proofs.Permission.{room-of}
 use borrow.Author.Needs.{needs}
 use Rattle.table.proofs.steps.one_more.Statement.{statement}

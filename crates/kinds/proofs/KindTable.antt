@@ -14,12 +14,12 @@ use Rattle.operators.specs.declared.OneRow.the-variants.{Negation, Conflation, 
 use Rattle.operators.specs.declared.TwoRow.the-variants.{TruthMeet, TruthJoin, KnowledgeMeet, KnowledgeJoin, Implication}
 use Rattle.operators.specs.declared.TwoRow.the-variants.{Guard, OverrideU, OverrideD, OverrideG, OverrideC}
 use Rattle.belnap.specs.declared.orders.Order.the-variants.{Truth, Knowledge}
-use Rattle.entries.specs.declared.kinds.Kind.{Kind}
-use Rattle.entries.specs.declared.kinds.Kind.the-variants.{Row, Question}
-use Rattle.entries.specs.declared.kinds.RowKind.the-variants.{Always, DenyIf, GrantIf, One, Two}
-use Rattle.entries.specs.declared.kinds.QuestionKind.the-variants.{Compare, Not, Both}
-use Rattle.entries.specs.declared.kinds.Announced.the-variants.{Listed, Unlisted}
-use Rattle.entries.specs.Kinds.{formOf, kinds, among, kindOf, isRow, isQuestion, asRow, asQuestion}
+use Rattle.kinds.specs.declared.Kind.{Kind}
+use Rattle.kinds.specs.declared.Kind.the-variants.{Row, Question}
+use Rattle.kinds.specs.declared.RowKind.the-variants.{Always, DenyIf, GrantIf, One, Two}
+use Rattle.kinds.specs.declared.QuestionKind.the-variants.{Compare, Not, Both}
+use Rattle.kinds.specs.declared.Announced.the-variants.{Listed, Unlisted}
+use Rattle.kinds.specs.Kinds.{formOf, kinds, among, kindOf, isRow, isQuestion, asRow, asQuestion}
 
 among-byte : (l : List Kind) (k : ℕ) (kind : Kind) → among l k ≡ Listed kind → formOf kind .byte ≡ k
 among-byte [] k kind e = absurd (let z : _≡_ {A = ℕ} 0 1 = cc in omega arith)

@@ -1,7 +1,7 @@
--- That `kinds::row_form` (src/kinds.rt) keeps its promise.
+-- That `row_form` (src/lib.rt) keeps its promise.
 use borrow.Author.Needs.{needs}
-use Rattle.entries.proofs.kinds.row_form.Statement.{statement}
-use Rattle.entries.proofs.kinds.row_form.Tie as tie
+use Rattle.kinds.proofs.row_form.Statement.{statement}
+use Rattle.kinds.proofs.row_form.Tie as tie
 
 returns : tie.Need-returns
 returns c = rw (c .before .before .before .kind .given .1, c .line .ensures, c .before .code-of .ensures)

@@ -1,12 +1,12 @@
--- That `kinds::kind_of` (src/kinds.rt) keeps its promise.
-use Rattle.entries.proofs.KindTable.{gap, past-three, always-kind}
-use Rattle.entries.specs.Kinds.{kindOf}
+-- That `kind_of` (src/lib.rt) keeps its promise.
+use Rattle.kinds.proofs.KindTable.{gap, past-three, always-kind}
+use Rattle.kinds.specs.Kinds.{kindOf}
 use native.Mathlib.Omega.{arith}
 use Prim.Native.Nat.{_+_, _%_}
 use mathlib.Core.Path.{_≡_, refl, sym}
 use borrow.Author.Needs.{needs}
-use Rattle.entries.proofs.kinds.kind_of.Statement.{statement}
-use Rattle.entries.proofs.kinds.kind_of.Tie as tie
+use Rattle.kinds.proofs.kind_of.Statement.{statement}
+use Rattle.kinds.proofs.kind_of.Tie as tie
 
 returns : tie.Need-returns
 returns c =

@@ -6,7 +6,7 @@ use operators::OneRow;
 use operators::TwoRow;
 ghost use mathlib.Core.Path.{_≡_};
 ghost use Prim.Native.Nat.{_+_, _≤_, _<_};
-ghost use Rattle.entries.specs.Kinds.{kindOf, formOf, formWith, byteOfOne, byteOfTwo, byteOfOrder, asRow, asQuestion};
+ghost use Rattle.kinds.specs.Kinds.{kindOf, formOf, formWith, byteOfOne, byteOfTwo, byteOfOrder, asRow, asQuestion};
 
 // The kinds of a row.
 pub enum RowKind {

@@ -1,11 +1,11 @@
--- That `kinds::two_kind` (src/kinds.rt) keeps its promise.
-use Rattle.entries.proofs.KindTable.{gap}
+-- That `two_kind` (src/lib.rt) keeps its promise.
+use Rattle.kinds.proofs.KindTable.{gap}
 use native.Mathlib.Omega.{arith}
 use Prim.Native.Nat.{_+_}
 use mathlib.Core.Path.{refl, sym}
 use borrow.Author.Needs.{needs}
-use Rattle.entries.proofs.kinds.two_kind.Statement.{statement}
-use Rattle.entries.proofs.kinds.two_kind.Tie as tie
+use Rattle.kinds.proofs.two_kind.Statement.{statement}
+use Rattle.kinds.proofs.two_kind.Tie as tie
 
 returns : tie.Need-returns
 returns c = sym (c .two-of .ensures)

@@ -1,9 +1,9 @@
--- That `kinds::one_of` (src/kinds.rt) keeps its promise.
-use Rattle.entries.specs.Kinds.{kindOf}
+-- That `one_of` (src/lib.rt) keeps its promise.
+use Rattle.kinds.specs.Kinds.{kindOf}
 use native.Mathlib.Omega.{arith}
 use mathlib.Core.Path.{_≡_}
-use Rattle.entries.proofs.kinds.one_of.Statement.{statement}
-use Rattle.entries.proofs.kinds.one_of.Tie as tie
+use Rattle.kinds.proofs.one_of.Statement.{statement}
+use Rattle.kinds.proofs.one_of.Tie as tie
 
 returns : tie.Need-returns
 unfolding kindOf

@@ -1,7 +1,7 @@
--- That `kinds::question_form` (src/kinds.rt) keeps its promise.
+-- That `question_form` (src/lib.rt) keeps its promise.
 use borrow.Author.Needs.{needs}
-use Rattle.entries.proofs.kinds.question_form.Statement.{statement}
-use Rattle.entries.proofs.kinds.question_form.Tie as tie
+use Rattle.kinds.proofs.question_form.Statement.{statement}
+use Rattle.kinds.proofs.question_form.Tie as tie
 
 returns : tie.Need-returns
 returns c = rw (c .before .before .before .kind .given .1, c .line .ensures, c .before .byte-of-order .ensures)

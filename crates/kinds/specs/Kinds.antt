@@ -14,17 +14,17 @@ use Rattle.belnap.specs.declared.orders.Order.the-variants.{Truth, Knowledge}
 use Rattle.belnap.specs.Decisions.{code, everyDecision}
 use Rattle.operators.specs.Operators.{everyOneRow, everyTwoRow}
 use Rattle.belnap.specs.Orders.{everyOrder}
-use Rattle.entries.specs.declared.kinds.RowKind.{RowKind}
-use Rattle.entries.specs.declared.kinds.RowKind.the-variants.{Always, DenyIf, GrantIf, One, Two}
-use Rattle.entries.specs.declared.kinds.QuestionKind.{QuestionKind}
-use Rattle.entries.specs.declared.kinds.QuestionKind.the-variants.{Compare, Not, Both}
-use Rattle.entries.specs.declared.kinds.Kind.{Kind}
-use Rattle.entries.specs.declared.kinds.Kind.the-variants.{Row, Question}
-use Rattle.entries.specs.declared.kinds.Announced.{Announced}
-use Rattle.entries.specs.declared.kinds.Announced.the-variants.{Listed, Unlisted}
-use Rattle.entries.specs.declared.kinds.Names.{Names}
-use Rattle.entries.specs.declared.kinds.Names.the-variants.{Nothing, Predicates, Rows, Questions}
-use Rattle.entries.specs.declared.kinds.Form.{Form}
+use Rattle.kinds.specs.declared.RowKind.{RowKind}
+use Rattle.kinds.specs.declared.RowKind.the-variants.{Always, DenyIf, GrantIf, One, Two}
+use Rattle.kinds.specs.declared.QuestionKind.{QuestionKind}
+use Rattle.kinds.specs.declared.QuestionKind.the-variants.{Compare, Not, Both}
+use Rattle.kinds.specs.declared.Kind.{Kind}
+use Rattle.kinds.specs.declared.Kind.the-variants.{Row, Question}
+use Rattle.kinds.specs.declared.Announced.{Announced}
+use Rattle.kinds.specs.declared.Announced.the-variants.{Listed, Unlisted}
+use Rattle.kinds.specs.declared.Names.{Names}
+use Rattle.kinds.specs.declared.Names.the-variants.{Nothing, Predicates, Rows, Questions}
+use Rattle.kinds.specs.declared.Form.{Form}
 
 -- the bytes of the operators and of the two comparisons
 abbrev pub byteOfOne : OneRow → ℕ

@@ -1,7 +1,7 @@
--- That `kinds::as_row` (src/kinds.rt) keeps its promise.
+-- That `as_row` (src/lib.rt) keeps its promise.
 use borrow.Author.Needs.{needs}
-use Rattle.entries.proofs.kinds.as_row.Statement.{statement}
-use Rattle.entries.proofs.kinds.as_row.Tie as tie
+use Rattle.kinds.proofs.as_row.Statement.{statement}
+use Rattle.kinds.proofs.as_row.Tie as tie
 
 returns-2 : tie.Need-returns-2
 returns-2 c = rw (c .enum-told .given .1)

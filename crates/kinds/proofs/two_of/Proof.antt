@@ -1,11 +1,11 @@
--- That `kinds::two_of` (src/kinds.rt) keeps its promise.
-use Rattle.entries.proofs.KindTable.{past-three}
+-- That `two_of` (src/lib.rt) keeps its promise.
+use Rattle.kinds.proofs.KindTable.{past-three}
 use Prim.Native.Nat.{ℕ, _≤_, _<_}
-use Rattle.entries.specs.Kinds.{kindOf}
+use Rattle.kinds.specs.Kinds.{kindOf}
 use native.Mathlib.Omega.{arith}
 use mathlib.Core.Path.{_≡_}
-use Rattle.entries.proofs.kinds.two_of.Statement.{statement}
-use Rattle.entries.proofs.kinds.two_of.Tie as tie
+use Rattle.kinds.proofs.two_of.Statement.{statement}
+use Rattle.kinds.proofs.two_of.Tie as tie
 
 returns : tie.Need-returns
 unfolding kindOf
