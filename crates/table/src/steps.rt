@@ -7,7 +7,7 @@ use kinds::Announced;
 use kinds::Kind;
 use kinds::Names;
 ghost use mathlib.Core.Path.{_≡_};
-ghost use Prim.Native.Nat.{_+_, _≤_, _<_};
+ghost use Prim.Native.Nat.{_+_, _<_};
 ghost use lib.ListN.{length, getD, drop};
 ghost use Rattle.entries.specs.Said.{refusal};
 ghost use Rattle.table.specs.Steps.{oneMore, noRoom, limit, misnamed, numberAt, namedAt, misnaming};
