@@ -1,0 +1,74 @@
+# Sourced by the scripts that have the prover work: what it is doing, for people.
+
+# span SECONDS: a time as people say it
+span() {
+    if [[ $1 -lt 60 ]]; then echo "$1 s"; else echo "$(($1 / 60)) min $(($1 % 60)) s"; fi
+}
+
+# levels_of [PROGRAM]: the crates of crates.txt, or a program and those that it needs; on a line those that do not need each other, which are proved at once
+levels_of() {
+    awk -F: -v of="${1:-}" '
+        /^[a-z]/ { name[++n] = $1; needs[$1] = $2 }
+        END {
+            for (i = 1; i <= n; i++) {
+                level = 1
+                for (j = split(needs[name[i]], need, " "); j > 0; j--) if (height[need[j]] >= level) level = height[need[j]] + 1
+                height[name[i]] = level
+                if (of == "" || of == name[i] || index(needs[of] " ", " " name[i] " ")) line[level] = line[level] " " name[i]
+                if (level > top) top = level
+            }
+            for (level = 1; level <= top; level++) if (line[level] != "") print substr(line[level], 2)
+        }' crates.txt
+}
+
+# tell [PROGRAM]: reads what the prover prints while it proves these crates and tries their edits. Says what is being proved, and of each crate and each edit
+# how long it took and how long all took so far. A second without a line means that something is being proved; a crate that has not changed since it was last
+# proved is passed over in silence.
+tell() {
+    local levels level=0 left told=0 proved=0 tried=0 crates edits line rest='' status name took
+    mapfile -t levels < <(levels_of "${1:-}")
+    crates=$(wc -w <<<"${levels[*]}")
+    edits=$(find crates -path '*/must-fail/*.edit' | wc -l)
+    left=$(wc -w <<<"${levels[0]}")
+    SECONDS=0
+    while :; do
+        status=0
+        IFS= read -r -t 1 line || status=$?
+        line=$rest$line rest=''
+        if [[ $status -gt 128 ]]; then
+            rest=$line
+            [[ $told -eq 1 || $level -ge ${#levels[@]} ]] || echo "proving ${levels[level]// /, }"
+            told=1
+            continue
+        fi
+        case $line in
+        'rt: must-fail '*)
+            tried=$((tried + 1)) name=${line#rt: must-fail } took=${line##*; }
+            if [[ $line == *': refused, as it must be '* ]]; then
+                echo "edit $tried of $edits, ${name%%:*}: refused, ${took%)}, $(span $SECONDS) so far"
+            else
+                echo "edit $tried of $edits, $name"
+            fi
+            ;;
+        'rt: '*' proved ('* | 'rt: '*' NOT PROVED ('*)
+            proved=$((proved + 1)) name=${line#rt: } took=${line##*(}
+            if [[ $line == *' NOT PROVED ('* ]]; then
+                echo "$proved of $crates, ${name%% *}: NOT PROVED, $(span $SECONDS) so far"
+            elif [[ $took == *' s)' ]]; then
+                echo "$proved of $crates, ${name%% *}: ${took%)}, $(span $SECONDS) so far"
+            fi
+            left=$((left - 1))
+            if [[ $left -eq 0 ]]; then
+                level=$((level + 1)) told=0
+                left=$(wc -w <<<"${levels[level]:-}")
+            fi
+            ;;
+        esac
+        [[ $status -eq 0 ]] || break
+    done
+}
+
+# what_went_wrong LOG: the prover's words but for what went right
+what_went_wrong() {
+    grep -vE ': proved$|: refused, as it must be|note: large solution|^library |^logic|^rt: [a-z]+ proved \(' "$1" | tail -n 200
+}
