@@ -35,6 +35,16 @@ fn text(bytes: &[u8]) {
     io::write_all(STDOUT_FILENO, bytes);
 }
 
+fn end_line() {
+    text(b"\n");
+}
+
+// What a line is about, and a colon.
+fn case(name: &[u8]) {
+    text(name);
+    text(b": ");
+}
+
 // A number behind its name.
 fn field(name: &[u8], n: u64) {
     text(name);
@@ -44,13 +54,12 @@ fn field(name: &[u8], n: u64) {
 fn refused(refusal: u32, place: usize) {
     field(b"refused ", refusal as u64);
     field(b" at ", place as u64);
-    text(b"\n");
+    end_line();
 }
 
 // Reading: how many rows, questions and predicates, or the refusal.
 fn reads(name: &[u8], table: &[u8]) {
-    text(name);
-    text(b": ");
+    case(name);
     let c = pierstride::pier_read(table);
     if c.refusal != 0 {
         refused(c.refusal, c.place);
@@ -59,13 +68,12 @@ fn reads(name: &[u8], table: &[u8]) {
     field(b"accepted, rows ", c.rows as u64);
     field(b" questions ", c.questions as u64);
     field(b" predicates ", c.predicates as u64);
-    text(b"\n");
+    end_line();
 }
 
 // The set of a row of table A.
 fn sets(name: &[u8], row: u32, known: u32, request: u32) {
-    text(name);
-    text(b": ");
+    case(name);
     let a = A;
     let s = pierstride::pier_possible(&a, row, known, request);
     if s.refusal != 0 {
@@ -73,7 +81,17 @@ fn sets(name: &[u8], row: u32, known: u32, request: u32) {
         return;
     }
     field(b"set ", s.set as u64);
-    text(b"\n");
+    end_line();
+}
+
+fn reply(number: u32, request: u32) {
+    if number == pierstride::HOLDS {
+        text(b"holds");
+    } else if number == pierstride::FAILS {
+        field(b"fails, mask ", request as u64);
+    } else {
+        text(b"unfinished");
+    }
 }
 
 // The verdict on a question.
@@ -86,15 +104,9 @@ fn asks(name: &[u8], table: &[u8], question: u32, budget: u32) {
         refused(v.refusal, v.place);
         return;
     }
-    if v.reply == pierstride::HOLDS {
-        text(b"holds");
-    } else if v.reply == pierstride::FAILS {
-        field(b"fails, mask ", v.request as u64);
-    } else {
-        text(b"unfinished");
-    }
+    reply(v.reply, v.request);
     field(b", count ", v.visits as u64);
-    text(b"\n");
+    end_line();
 }
 
 fn hex(n: u8) {
@@ -130,7 +142,7 @@ fn strikes(row: u32) {
         }
         i += 1;
     }
-    text(b"\n");
+    end_line();
 }
 
 // A row's own bytes, or why there are none.
@@ -145,7 +157,7 @@ fn takes(name: &[u8], table: &[u8], row: u32) {
         return;
     }
     bytes(lookup::entry(table, row));
-    text(b"\n");
+    end_line();
 }
 
 // 00 and 65 times 40 00 00.

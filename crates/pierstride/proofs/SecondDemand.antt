@@ -5,6 +5,7 @@
 use mathlib.Core.Path.{_≡_, refl, sym, ap, _∙_}
 use mathlib.Core.Bool.{true}
 use mathlib.Core.List.{List}
+use mathlib.Core.Option.{Option, none, some}
 use Prim.Native.Nat.{ℕ, suc, _+_, _-_, _^_, _≤_, _<_}
 use native.Mathlib.Omega.{arith}
 use lib.ListN.{length, getD, take, drop}
@@ -30,7 +31,7 @@ use Rattle.decide.proofs.Independence.{independent}
 use Rattle.decide.proofs.Rules.{row-named, operands, by-rule}
 use Rattle.walk.specs.declared.Reply.the-variants.{Holds, Fails, Unfinished}
 use Rattle.walk.specs.Order.{comesBefore}
-use Rattle.walk.specs.Walk.{Found, nothing, breaking, visits, replyOf}
+use Rattle.walk.specs.Walk.{Visit, found, ended, replyOf}
 use Rattle.walk.proofs.Replies.{reply-within, reply-beyond}
 use Rattle.walk.proofs.Answers.{nothing-holds, breaking-first}
 use Rattle.strike.specs.Strike.{lower, struck, struckAnswer}
@@ -70,14 +71,16 @@ decide-independent s c is r m o agree p q =
     decided s c is r m p .1 ∙ ap (λ (v : Decision). decidedOf (answered v)) (independent (c .rows) m o r agree) ∙ sym (decided s c is r o q .1)
 
 -- a reply, by what the walk found and whether its visits are within the budget
-pub by-reply : {P : Type 0} (b : ℕ) (w : Found) (v : Verdict) → v ≡ repliedOf (replyOf b w) →
-    ((n : ℕ) → w ≡ nothing n → n ≤ b → v ≡ repliedOf (Holds n) → P) →
-    ((m n : ℕ) → w ≡ breaking m n → n ≤ b → v ≡ repliedOf (Fails m n) → P) →
-    (b < visits w → v ≡ repliedOf (Unfinished b) → P) → P
-by-reply b (nothing n) v e f g h =
-    by-order b n (λ l. h l (e ∙ ap repliedOf (reply-beyond b (nothing n) l))) (λ l. f n refl l (e ∙ ap repliedOf (reply-within b (nothing n) l)))
-by-reply b (breaking m n) v e f g h =
-    by-order b n (λ l. h l (e ∙ ap repliedOf (reply-beyond b (breaking m n) l))) (λ l. g m n refl l (e ∙ ap repliedOf (reply-within b (breaking m n) l)))
+pub by-reply : {P : Type 0} (b : ℕ) (vs : List Visit) (v : Verdict) → v ≡ repliedOf (replyOf b vs) →
+    (found vs ≡ none → length vs ≤ b → v ≡ repliedOf (Holds (length vs)) → P) →
+    ((m : ℕ) → found vs ≡ some m → length vs ≤ b → v ≡ repliedOf (Fails m (length vs)) → P) →
+    (b < length vs → v ≡ repliedOf (Unfinished b) → P) → P
+by-reply {P} b vs v e f g h =
+    by-order b (length vs) (λ l. h l (e ∙ ap repliedOf (reply-beyond b vs l))) (λ l. go (found vs) refl l (e ∙ ap repliedOf (reply-within b vs l)))
+  where
+    go : (o : Option ℕ) → found vs ≡ o → length vs ≤ b → v ≡ repliedOf (ended o (length vs)) → P
+    go none w l q = f w l q
+    go (some m) w l q = g m w l q
 
 -- a reply that is shown under two numbers is none
 pub unlike : {P : Type 0} (v w : Verdict) (k : ℕ) → v ≡ w → v .reply ≡ k → (w .reply ≡ k → ⊥) → P
@@ -94,32 +97,32 @@ module _ (s : List ℕ) (c : Contents) (is : reading s ≡ answered c) (q b : �
   pub holds-means : answer .reply ≡ holding → (o : ℕ) → Breaks c q o → ⊥
   holds-means e o broken =
       by-reply b (walkOf c q) answer (replies s c is q b there)
-      (λ k w l v. never (sym (nothing-holds (c .rows) (c .questions) n (covered c) q k w o) ∙ broken))
-      (λ m k w l v. unlike answer _ holding v e (λ z. omega arith))
+      (λ w l v. never (sym (nothing-holds (c .rows) (c .questions) n (covered c) q w o) ∙ broken))
+      (λ m w l v. unlike answer _ holding v e (λ z. omega arith))
       (λ l v. unlike answer _ holding v e (λ z. omega arith))
 
   pub holds-if : (answer .reply ≡ unfinished → ⊥) → ((o : ℕ) → o < 2 ^ n → Breaks c q o → ⊥) → answer .reply ≡ holding
   holds-if enough kept =
       by-reply b (walkOf c q) answer (replies s c is q b there)
-      (λ k w l v. ap (λ (v : Verdict). v .reply) v)
-      (λ m k w l v. let f = breaking-first (c .rows) (c .questions) n (covered c) q m k w in absurd (kept m (f .1) (f .0)))
+      (λ w l v. ap (λ (v : Verdict). v .reply) v)
+      (λ m w l v. let f = breaking-first (c .rows) (c .questions) n (covered c) q m w in absurd (kept m (f .1) (f .0)))
       (λ l v. absurd (enough (ap (λ (v : Verdict). v .reply) v)))
 
   pub fails-means : answer .reply ≡ failing →
       Breaks c q (answer .request) × (answer .request < 2 ^ n) × ((more o : ℕ) → comesBefore (n + more) o (answer .request) ≡ true → Breaks c q o → ⊥)
   fails-means e =
       by-reply b (walkOf c q) answer (replies s c is q b there)
-      (λ k w l v. unlike answer _ failing v e (λ z. omega arith))
-      (λ m k w l v.
-      let f = breaking-first (c .rows) (c .questions) n (covered c) q m k w in
+      (λ w l v. unlike answer _ failing v e (λ z. omega arith))
+      (λ m w l v.
+      let f = breaking-first (c .rows) (c .questions) n (covered c) q m w in
       rw (ap (λ (v : Verdict). v .request) v) (f .0, f .1, λ more o h broken. never (sym (f .2 more o h) ∙ broken)))
       (λ l v. unlike answer _ failing v e (λ z. omega arith))
 
   pub fails-if : (answer .reply ≡ unfinished → ⊥) → (o : ℕ) → Breaks c q o → answer .reply ≡ failing
   fails-if enough o broken =
       by-reply b (walkOf c q) answer (replies s c is q b there)
-      (λ k w l v. never (sym (nothing-holds (c .rows) (c .questions) n (covered c) q k w o) ∙ broken))
-      (λ m k w l v. ap (λ (v : Verdict). v .reply) v)
+      (λ w l v. never (sym (nothing-holds (c .rows) (c .questions) n (covered c) q w o) ∙ broken))
+      (λ m w l v. ap (λ (v : Verdict). v .reply) v)
       (λ l v. absurd (enough (ap (λ (v : Verdict). v .reply) v)))
 
 -- a row other than the struck one is there under its new number exactly if it was there

@@ -3,7 +3,7 @@
 use mathlib.Core.Path.{_≡_, sym, ap, _∙_}
 use mathlib.Core.Bool.{Bool, false}
 use mathlib.Core.List.{List}
-use Prim.Native.Nat.{ℕ, _≤_, _<_}
+use Prim.Native.Nat.{ℕ, min, _≤_, _<_}
 use native.Mathlib.Omega.{arith}
 use lib.ListN.{length, getD}
 use lib.Dec.{leb}
@@ -29,8 +29,9 @@ use Rattle.decide.proofs.RowByRow.{same-value}
 use Rattle.possible.specs.Sets.{decisions, single, mask}
 use Rattle.possible.specs.Possible.{setOf, possible, possibleIn}
 use Rattle.walk.specs.declared.Reply.{Reply}
-use Rattle.walk.specs.Walk.{walk, replyOf}
-use Rattle.walk.proofs.QuestionLoop.{same-walk}
+use Rattle.walk.specs.Walk.{replyOf}
+use Rattle.walk.specs.Inner.{replyIn}
+use Rattle.walk.proofs.Sights.{same-walk}
 use Rattle.pierstride.specs.declared.Counts.{Counts}
 use Rattle.pierstride.specs.declared.Remaining.{Remaining}
 use Rattle.pierstride.specs.Masks.{beyond, badMasks}
@@ -125,16 +126,19 @@ module _ {s : List ℕ} {got : Reading} (o : Opened s got) where
     pub verdict-refuses : (why ≡ 0 → ⊥) → verdictOf (refusing (refusal why 0)) ≡ verdictAnswer s at budget
     verdict-refuses h = sym (ap verdictOf (verdict-said ∙ unless-some why _ h))
 
-    pub verdict-answers : why ≡ 0 → (p : Reply) → p ≡ replyOf budget (walk (got .table .rows) (got .table .questions) (got .table .predicates) at) →
+    -- the question has room in a table, and n predicates have
+    verdict-fits : why ≡ 0 → (at < questionLimit) × (got .table .predicates ≤ predicateLimit)
+    verdict-fits e =
+        let l = asked-there (got .table .tally .questions) at false (sym w ∙ e) in
+        (omega (arith, l, asked-is, o .whole .questions-fit), rw predicates-is (limits s (o .contents) (o .is) .3))
+
+    pub verdict-answers : why ≡ 0 → (p : Reply) → p ≡ replyIn budget (got .table .rows) (got .table .questions) (got .table .predicates) at →
         repliedOf p ≡ verdictAnswer s at budget
     verdict-answers e p q =
         let t = got .table in
         let c = o .contents in
         let same = same-walk (t .rows) (c .rows) (t .questions) (c .questions) rows-at questions-at (predicates c) at in
-        let d : p ≡ walked = q ∙ rw predicates-is (ap (replyOf budget) same) in
+        let fits = verdict-fits e in
+        let n : min (t .predicates) predicateLimit ≡ predicates c = omega (arith, predicates-is, fits .1) in
+        let d : p ≡ walked = q ∙ rw (lt-ltb at questionLimit (fits .0), n) (ap (replyOf budget) same) in
         rw d (sym (ap verdictOf (verdict-said ∙ unless-none why _ e)))
-
-    pub verdict-fits : why ≡ 0 → (at < questionLimit) × (got .table .predicates ≤ predicateLimit)
-    verdict-fits e =
-        let l = asked-there (got .table .tally .questions) at false (sym w ∙ e) in
-        (omega (arith, l, asked-is, o .whole .questions-fit), rw predicates-is (limits s (o .contents) (o .is) .3))

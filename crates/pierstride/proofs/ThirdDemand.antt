@@ -27,9 +27,9 @@ use Rattle.possible.specs.Possible.{possible}
 use Rattle.possible.proofs.Masks.{mask-below, member-bit, single-mask}
 use Rattle.possible.proofs.Filling.{filling-member, learning-adds-none, known-exact}
 use Rattle.walk.specs.declared.Reply.{Reply}
-use Rattle.walk.specs.Walk.{Found, visits, replyOf, sees}
+use Rattle.walk.specs.Walk.{Visit, sees, replyOf}
 use Rattle.walk.proofs.Bits.{bit-above}
-use Rattle.walk.proofs.Budgets.{more-never-unsays, visits-bound}
+use Rattle.walk.proofs.Budgets.{more-never-unsays, walk-bound}
 use Rattle.pierstride.specs.declared.Decided.{Decided}
 use Rattle.pierstride.specs.declared.Remaining.{Remaining}
 use Rattle.pierstride.specs.declared.Verdict.{Verdict}
@@ -51,7 +51,7 @@ pub verdict-never-unsaid : (s : List ℕ) (q b more : ℕ) → b ≤ more → (v
 unfolding saysVerdict
 verdict-never-unsaid s q b more l h = on (reading s) h
   where
-    asked : (n : ℕ) (w : Found) → (verdictOf (unless n (answered (replyOf b w))) .reply ≡ unfinished → ⊥) →
+    asked : (n : ℕ) (w : List Visit) → (verdictOf (unless n (answered (replyOf b w))) .reply ≡ unfinished → ⊥) →
         verdictOf (unless n (answered (replyOf more w))) ≡ verdictOf (unless n (answered (replyOf b w)))
     asked zero w h = ap repliedOf (more-never-unsays b more w l (λ e. h (ap (λ (v : Reply). repliedOf v .reply) e)))
     asked (suc n) w h = refl
@@ -69,23 +69,23 @@ module _ (s : List ℕ) (c : Contents) (is : reading s ≡ answered c) (q b : �
   pub unfinished-means : answer .reply ≡ unfinished → (b < needed c q) × (answer .visits ≡ b)
   unfinished-means e =
       by-reply b (walkOf c q) answer (replies s c is q b there)
-      (λ k w l v. unlike answer _ unfinished v e (λ z. omega arith))
-      (λ m k w l v. unlike answer _ unfinished v e (λ z. omega arith))
+      (λ w l v. unlike answer _ unfinished v e (λ z. omega arith))
+      (λ m w l v. unlike answer _ unfinished v e (λ z. omega arith))
       (λ l v. (l, ap (λ (v : Verdict). v .visits) v))
 
   pub unfinished-if : b < needed c q → answer .reply ≡ unfinished
   unfinished-if l =
       by-reply b (walkOf c q) answer (replies s c is q b there)
-      (λ k w g v. absurd (omega (arith, ap visits w)))
-      (λ m k w g v. absurd (omega (arith, ap visits w)))
+      (λ w g v. absurd (omega arith))
+      (λ m w g v. absurd (omega arith))
       (λ g v. ap (λ (v : Verdict). v .reply) v)
 
   -- a verdict gives the walk's own count
   pub verdict-counts : (answer .reply ≡ unfinished → ⊥) → answer .visits ≡ needed c q
   verdict-counts enough =
       by-reply b (walkOf c q) answer (replies s c is q b there)
-      (λ k w l v. ap (λ (v : Verdict). v .visits) v ∙ sym (ap visits w))
-      (λ m k w l v. ap (λ (v : Verdict). v .visits) v ∙ sym (ap visits w))
+      (λ w l v. ap (λ (v : Verdict). v .visits) v)
+      (λ m w l v. ap (λ (v : Verdict). v .visits) v)
       (λ l v. absurd (enough (ap (λ (v : Verdict). v .reply) v)))
 
   pub always-enough : 2 ^ (readAnswer s .predicates + 1) - 1 ≤ b → answer .reply ≡ unfinished → ⊥
@@ -93,7 +93,7 @@ module _ (s : List ℕ) (c : Contents) (is : reading s ≡ answered c) (q b : �
       let n = predicates c in
       let m : readAnswer s .predicates ≡ n = rw is in
       let few : 2 ^ suc n - 1 ≤ b = rw (m, add-one n) at l in
-      omega (arith, visits-bound (sees (c .rows) (c .questions) q) n 0 0, unfinished-means e .0, few)
+      omega (arith, walk-bound (sees (c .rows) (c .questions) q) n, unfinished-means e .0, few)
 
 -- the set of a row, and its members: a decision counts two to the power of its code
 module _ (s : List ℕ) (r known request : ℕ) (left : possibleAnswer s r known request .refusal ≡ 0) where

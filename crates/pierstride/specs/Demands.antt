@@ -8,8 +8,7 @@ use lib.ListN.{length}
 use Rattle.entries.specs.Refusals.{notThere, stillNamed, badMask, outputTooShort, ofReading, isAmong}
 use Rattle.entries.specs.Said.{Said, answered, refusing, refusal}
 use Rattle.table.specs.Contents.{Contents}
-use Rattle.walk.specs.Questions.{truth}
-use Rattle.walk.specs.Walk.{visits}
+use Rattle.questions.specs.Questions.{truth}
 use Rattle.pierstride.specs.Services.{walkOf}
 
 -- "one of 01's numbered refusals": each call's own, beside those of reading
@@ -41,4 +40,4 @@ Breaks c q o = truth (c .rows) (c .questions) o q ≡ false
 
 -- how many visits "01's walk needs"
 abbrev pub needed : Contents → ℕ → ℕ
-needed c q = visits (walkOf c q)
+needed c q = length (walkOf c q)

@@ -18,7 +18,7 @@ use Rattle.possible.specs.Sets.{decisions, Set, mask}
 use Rattle.possible.specs.Possible.{possible}
 use Rattle.walk.specs.declared.Reply.{Reply}
 use Rattle.walk.specs.declared.Reply.the-variants.{Holds, Fails, Unfinished}
-use Rattle.walk.specs.Walk.{Found, walk, replyOf}
+use Rattle.walk.specs.Walk.{Visit, walk, replyOf}
 use Rattle.strike.specs.Strike.{struckAnswer, struckOutput}
 use Rattle.pierstride.specs.declared.Closed.{Closed}
 use Rattle.pierstride.specs.declared.Counts.{Counts}
@@ -83,8 +83,8 @@ abbrev pub verdictOf : Said Reply → Verdict
 verdictOf (answered reply) = repliedOf reply
 verdictOf (refusing why) = record { refusal = why .number; place = why .place; reply = 0; request = 0; visits = 0 }
 
--- 01's walk for a question of a table
-abbrev pub walkOf : Contents → ℕ → Found
+-- the visits of 01's walk for a question of a table
+abbrev pub walkOf : Contents → ℕ → List Visit
 walkOf c q = walk (c .rows) (c .questions) (predicates c) q
 
 unfoldable pub saysVerdict : List ℕ → ℕ → ℕ → Said Reply

@@ -1,4 +1,4 @@
--- What src/tables.rt lists, computed from the definition of an image, and the rule of a look-up in it.
+-- What the tables of sets list (src/tables.rt here and in questions), computed from the definition of an image, and the rule of a look-up in them.
 -- A look-up is then proved by this rule if antt finds the table to be the computed list.
 -- Assumes nothing.
 use Prim.Native.Nat.{ℕ, zero, suc, _+_, _*_, _/_, _%_, _^_, _≤_, _<_}

@@ -6,13 +6,10 @@ use belnap::Decision;
 use kinds::RowKind;
 use table::Table;
 ghost use mathlib.Core.Path.{_≡_};
-ghost use mathlib.Core.List.{_++_, map};
-ghost use Prim.Native.Nat.{_*_, _≤_, _<_};
-ghost use lib.ListN.{length, getD, take, drop};
+ghost use lib.ListN.{getD};
 ghost use Rattle.belnap.specs.declared.Decision.the-variants.{U};
-ghost use Rattle.runs.specs.Flat.{perEntry, entriesIn};
-ghost use Rattle.decide.specs.Rows.{values};
 ghost use Rattle.possible.specs.Sets.{decisions, single, mask, ofMask};
+ghost use Rattle.possible.specs.Filled.{filled};
 ghost use Rattle.possible.specs.Possible.{factSet, setBy, setOf, possibleIn};
 
 // The set of a predicate row.
@@ -43,30 +40,29 @@ fn set_by(kind: RowKind, predicate: u8, known: u32, request: u32, s: u8, t: u8) 
     }
 }
 
-// The mask at a number below i; any other number reads as 1, which is {u} of decisions and {true} of truths.
-pub fn earlier(masks: &[u8], i: usize, n: u8) -> u8
-    requires { ⌜ i ≤ length (now masks) ⌝ }
-    ensures { λ r. ⌜ r ≡ getD (take i (now (masks .entry))) n 1 ⌝ }
+// The mask at a number of a run of masks; a number past its end reads as 1, which is {u} of decisions and {true} of truths.
+pub fn mask_at(masks: &[u8], n: u8) -> u8
+    ensures { λ r. ⌜ r ≡ getD (now (masks .entry)) n 1 ⌝ }
 {
     let at = entries::index(n);
-    if at < i { masks[at] } else { 1 }
+    if at < masks.len() { masks[at] } else { 1 }
 }
 
-// The sets of the rows below a number, from a run of rows, each from those before it, into the front of what is lent.
-pub fn sets_below(rows: &[u8], end: usize, known: u32, request: u32, sets: &mut [u8])
-    requires { ⌜ (perEntry * end ≤ length (now rows)) × (end ≤ length (now sets)) ⌝ }
+// The sets of the rows of a run, each from those before it, into the front of what is lent, as many as there is room for.
+pub fn fill_sets(rows: &[u8], known: u32, request: u32, sets: &mut [u8])
     ensures { λ r. ⌜ now (sets .exit) ≡
-        map (mask decisions) (values (setOf known request) (single U) (entriesIn (now (rows .entry))) end)
-        ++ drop end (now (sets .entry)) ⌝ }
+        filled decisions (setOf known request) (single U) (now (rows .entry)) (now (sets .entry)) ⌝ }
 {
+    let end = runs::room(rows, sets.len());
     let mut i = 0;
     while i < end {
         let at = runs::PER_ENTRY * i;
         let kind = kinds::as_row(runs::kind_in(rows[at]));
         let a = rows[at + 1];
         let b = rows[at + 2];
-        let s = earlier(sets, i, a);
-        let t = earlier(sets, i, b);
+        let done = &sets[..i];
+        let s = mask_at(done, a);
+        let t = mask_at(done, b);
         let v = set_by(kind, a, known, request, s, t);
         sets[i] = v;
         i += 1;
@@ -82,6 +78,7 @@ pub fn possible(t: Table, row: usize, known: u32, request: u32) -> u8
     }
     let rows = runs::flat_rows(t, row + 1);
     let mut sets = [0u8; Table::ROWS];
-    sets_below(&rows, row + 1, known, request, &mut sets);
+    let end = runs::PER_ENTRY * (row + 1);
+    fill_sets(&rows[..end], known, request, &mut sets);
     sets[row]
 }

@@ -4,7 +4,7 @@ use belnap::Decision;
 use operators::OneRow;
 use operators::TwoRow;
 ghost use mathlib.Core.Path.{_≡_};
-ghost use Prim.Native.Nat.{_*_, _/_, _%_, _^_, _<_};
+ghost use Prim.Native.Nat.{_*_, _/_, _%_, _^_};
 ghost use Rattle.operators.specs.Operators.{one, two};
 ghost use Rattle.possible.specs.Sets.{decisions, mask, ofMask, single, either, imageOne, imageTwo};
 
@@ -32,24 +32,23 @@ pub(crate) fn perhaps(x: Decision) -> u8
     }
 }
 
-// A digit of a word in hexadecimal, from the low end.
-pub fn digit(word: u64, n: usize) -> u8
-    requires { ⌜ n < 16 ⌝ }
-    ensures { λ r. ⌜ r ≡ word / 2 ^ (4 * n) % 16 ⌝ }
+// A digit of a word in hexadecimal, from the low end, by the low four bits of a number.
+pub fn digit(word: u64, n: u8) -> u8
+    ensures { λ r. ⌜ r ≡ word / 2 ^ (4 * (n % 16)) % 16 ⌝ }
 {
-    ((word >> (4 * n)) % 16) as u8
+    let place = 4 * (n % 16);
+    ((word >> place) % 16) as u8
 }
 
 // Every result of a one-row operator over every choice from a set.
 pub(crate) fn image_one(op: OneRow, s: u8) -> u8
     ensures { λ r. ⌜ r ≡ mask decisions (imageOne (one op) (ofMask decisions s)) ⌝ }
 {
-    let i = (s % 16) as usize;
     match op {
-        OneRow::Negation => digit(tables::NEGATION, i),
-        OneRow::Conflation => digit(tables::CONFLATION, i),
-        OneRow::ClosedDefault => digit(tables::CLOSED_DEFAULT, i),
-        OneRow::OpenDefault => digit(tables::OPEN_DEFAULT, i),
+        OneRow::Negation => digit(tables::NEGATION, s),
+        OneRow::Conflation => digit(tables::CONFLATION, s),
+        OneRow::ClosedDefault => digit(tables::CLOSED_DEFAULT, s),
+        OneRow::OpenDefault => digit(tables::OPEN_DEFAULT, s),
     }
 }
 
@@ -58,17 +57,16 @@ pub(crate) fn image_two(op: TwoRow, s: u8, t: u8) -> u8
     ensures { λ r. ⌜ r ≡ mask decisions (imageTwo (two op) (ofMask decisions s) (ofMask decisions t)) ⌝ }
 {
     let i = (s % 16) as usize;
-    let j = (t % 16) as usize;
     match op {
-        TwoRow::TruthMeet => digit(tables::TRUTH_MEET[i], j),
-        TwoRow::TruthJoin => digit(tables::TRUTH_JOIN[i], j),
-        TwoRow::KnowledgeMeet => digit(tables::KNOWLEDGE_MEET[i], j),
-        TwoRow::KnowledgeJoin => digit(tables::KNOWLEDGE_JOIN[i], j),
-        TwoRow::Implication => digit(tables::IMPLICATION[i], j),
-        TwoRow::Guard => digit(tables::GUARD[i], j),
-        TwoRow::OverrideU => digit(tables::OVERRIDE_U[i], j),
-        TwoRow::OverrideD => digit(tables::OVERRIDE_D[i], j),
-        TwoRow::OverrideG => digit(tables::OVERRIDE_G[i], j),
-        TwoRow::OverrideC => digit(tables::OVERRIDE_C[i], j),
+        TwoRow::TruthMeet => digit(tables::TRUTH_MEET[i], t),
+        TwoRow::TruthJoin => digit(tables::TRUTH_JOIN[i], t),
+        TwoRow::KnowledgeMeet => digit(tables::KNOWLEDGE_MEET[i], t),
+        TwoRow::KnowledgeJoin => digit(tables::KNOWLEDGE_JOIN[i], t),
+        TwoRow::Implication => digit(tables::IMPLICATION[i], t),
+        TwoRow::Guard => digit(tables::GUARD[i], t),
+        TwoRow::OverrideU => digit(tables::OVERRIDE_U[i], t),
+        TwoRow::OverrideD => digit(tables::OVERRIDE_D[i], t),
+        TwoRow::OverrideG => digit(tables::OVERRIDE_G[i], t),
+        TwoRow::OverrideC => digit(tables::OVERRIDE_C[i], t),
     }
 }

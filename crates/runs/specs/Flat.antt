@@ -1,7 +1,7 @@
 -- Entries as a run of numbers, three an entry: the form in which rows and questions are lent to a loop.
-use Prim.Native.Nat.{ℕ, zero, suc}
+use Prim.Native.Nat.{ℕ, zero, suc, _/_, min}
 use mathlib.Core.List.{List, [], _∷_, _++_}
-use lib.ListN.{getD}
+use lib.ListN.{length, getD}
 use Rattle.belnap.specs.declared.Decision.the-variants.{U}
 use Rattle.kinds.specs.declared.Kind.{Kind}
 use Rattle.kinds.specs.declared.RowKind.the-variants.{Always}
@@ -40,3 +40,7 @@ entriesIn [] = []
 entriesIn (k ∷ []) = []
 entriesIn (k ∷ a ∷ []) = []
 entriesIn (k ∷ a ∷ b ∷ l) = record { kind = kindIn k; a = a; b = b } ∷ entriesIn l
+
+-- how many entries of a run there is room for in so many places
+abbrev pub roomFor : List ℕ → ℕ → ℕ
+roomFor run places = min (length run / perEntry) places

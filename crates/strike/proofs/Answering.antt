@@ -18,8 +18,7 @@ use Rattle.table.specs.Contents.{Contents, written, encoded}
 use Rattle.table.specs.Reading.{reading, tableOf, contentsIn}
 use Rattle.table.proofs.Writing.{of-accepted}
 use Rattle.table.proofs.Opening.{Opened}
-use Rattle.strike.specs.Strike.{struckBytes, missing, inUse, tooShort, strikeRefusal}
-use Rattle.strike.specs.Strike.{struckAnswer, shownStruck, outputBy, struckOutput, Fits}
+use Rattle.strike.specs.Strike.{struckBytes, missing, inUse, tooShort, strikeRefusal, struckAnswer, shownStruck, outputBy, struckOutput, Fits}
 use Rattle.strike.proofs.Closing.{closed-bytes}
 use Rattle.strike.proofs.Laws.{output-of}
 use Rattle.strike.proofs.Filling.{table-fits, contents-back, held, struck-held, held-length, held-row}

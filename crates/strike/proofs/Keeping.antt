@@ -20,9 +20,10 @@ use Rattle.decide.specs.Meaning.{decision}
 use Rattle.decide.proofs.Renaming.{Named, Renames, decision-kept}
 use Rattle.possible.specs.Possible.{possible}
 use Rattle.possible.proofs.Renaming.{possible-kept}
-use Rattle.walk.specs.Questions.{truth, truthSet}
+use Rattle.questions.specs.Questions.{truth, truthSet}
 use Rattle.walk.specs.Walk.{walk, replyOf}
-use Rattle.walk.proofs.Renaming.{Asked, Follows, truth-kept as truth-renamed, truths-kept as truths-renamed, walk-kept as walk-renamed}
+use Rattle.questions.proofs.Renaming.{Asked, Follows, truth-kept as truth-renamed, truths-kept as truths-renamed}
+use Rattle.walk.proofs.Renaming.{walk-kept as walk-renamed}
 use Rattle.strike.specs.Strike.{lower, lowered, struck, names, namedBy}
 use Rattle.strike.proofs.Renumbering.{old-lower, lower-still}
 use Rattle.strike.proofs.Closing.{first-other, second-other}

@@ -1,188 +1,287 @@
 -- What a walk says: where it finds nothing, the question is true at every request; where it finds a request, that one breaks the question, and is the
--- first of all in 01's order that does. Stated over what a visit sees, and then of the questions of a table.
+-- first of all in 01's order that does. Stated over the predicates to be tried, what a visit sees and what is looked for, and then of the questions of a table.
 -- Assumes nothing.
-use mathlib.Core.Path.{_≡_, refl, sym, ap, _∙_}
-use mathlib.Core.Bool.{Bool, true, false, cond}
-use mathlib.Core.List.{List}
+use mathlib.Core.Path.{_≡_, refl, sym, ap, subst, _∙_}
+use mathlib.Core.Bool.{Bool, true, false, cond, not}
+use mathlib.Core.List.{List, [], _∷_, _++_, append-nil}
+use mathlib.Core.Option.{Option, none, some}
 use Prim.Native.Nat.{ℕ, zero, suc, _+_, _-_, _^_, _≤_, _<_}
 use native.Mathlib.Omega.{arith}
-use native.Mathlib.Nat.{pow-le-pow-right, zero-add, suc-add}
+use native.Mathlib.Nat.{zero-add, suc-add}
+use lib.Dec.{eqb}
+use borrow.Author.Tests.{not-true, not-false, eqb-true, eqb-false}
 use Rattle.belnap.specs.Decisions.{alike}
 use Rattle.belnap.proofs.Finite.{never}
 use Rattle.entries.specs.declared.Entry.{Entry}
 use Rattle.table.specs.Contents.{Covers}
 use Rattle.entries.proofs.Numbers.{by-order}
 use Rattle.decide.specs.Meaning.{bit}
-use Rattle.walk.specs.declared.questions.Look.{Look}
-use Rattle.walk.specs.declared.questions.Look.the-variants.{True, False, Open}
-use Rattle.walk.specs.Questions.{truth, truthSet, look}
-use Rattle.walk.specs.Walk.{Found, nothing, breaking, later, orElse, visit, walkFrom, sees, walk}
-use Rattle.walk.specs.Order.{beforeFrom, comesBefore}
-use Rattle.walk.proofs.Powers.{power-positive, power-twice}
-use Rattle.walk.proofs.Bits.{bit-above, bit-known, bit-with, bit-kept}
+use Rattle.decide.specs.Requests.{Fills}
+use Rattle.walk.specs.declared.Look.{Look}
+use Rattle.walk.specs.declared.Look.the-variants.{Nothing, Found, Open}
+use Rattle.questions.specs.Questions.{truth, truthSet}
+use Rattle.walk.specs.Walk.{Visit, look, foundAt, found, ifNone, orElse, below, visitsFrom, predicatesFrom, sees, walk}
+use Rattle.walk.specs.Order.{beforeBy, comesBefore}
+use Rattle.walk.proofs.Powers.{power-positive, known-more}
+use Rattle.walk.proofs.Bits.{bit-above, bit-known, bit-set, bit-else, bits-below}
+use Rattle.walk.proofs.Replies.{found-behind}
 use Rattle.walk.proofs.Looks.{settled, single-settled}
-use Rattle.walk.proofs.TruthSets.{filling-truth, known-truth}
+use Rattle.questions.proofs.TruthSets.{filling-truth, known-truth}
 
--- a request agrees with facts on predicates 0 to k-1
-abbrev pub Agrees : ℕ → ℕ → ℕ → Type 0
-Agrees k facts o = (p : ℕ) → p < k → bit o p ≡ bit facts p
-
--- with predicate k no, with predicate k yes, and back
-agrees-no : (k facts o : ℕ) → facts < 2 ^ k → Agrees k facts o → bit o k ≡ false → Agrees (k + 1) facts o
-agrees-no k facts o h a e p l =
-    by-order p k (a p) (λ g. let q : p ≡ k = omega arith in rw q (e ∙ sym (bit-above facts k k h (omega arith))))
-
-agrees-yes : (k facts o : ℕ) → facts < 2 ^ k → Agrees k facts o → bit o k ≡ true → Agrees (k + 1) (facts + 2 ^ k) o
-agrees-yes k facts o h a e p l =
-    by-order p k (λ g. a p g ∙ sym (bit-kept facts k p g)) (λ g. let q : p ≡ k = omega arith in rw q (e ∙ sym (bit-with facts k h)))
-
-less-no : (k facts o : ℕ) → Agrees (k + 1) facts o → Agrees k facts o
-less-no k facts o a p l = a p (omega arith)
-
-less-yes : (k facts o : ℕ) → Agrees (k + 1) (facts + 2 ^ k) o → Agrees k facts o
-less-yes k facts o a p l = a p (omega arith) ∙ bit-kept facts k p l
-
--- facts with every other predicate no come first of all that agree with them
-none-before : (left k facts o : ℕ) → ((p : ℕ) → k ≤ p → bit facts p ≡ false) → beforeFrom left k o facts ≡ true → ⊥
-unfolding beforeFrom
-none-before zero k facts o h e = never (sym e)
-none-before (suc left) k facts o h e = go (bit o k) (bit facts k) (h k (omega arith)) e (none-before left (k + 1) facts o (λ p l. h p (omega arith)))
+-- what a number is, or is not
+by-equal : {P : Type 0} (i p : ℕ) → (i ≡ p → P) → ((i ≡ p → ⊥) → P) → P
+by-equal {P} i p f g = go (eqb i p) refl
   where
-    go : (a b : Bool) → b ≡ false → cond (alike a b) (beforeFrom left (k + 1) o facts) b ≡ true → (beforeFrom left (k + 1) o facts ≡ true → ⊥) → ⊥
+    go : (b : Bool) → eqb i p ≡ b → P
+    go true e = f (eqb-true i p e)
+    go false e = g (eqb-false i p e)
+
+-- one predicate more is known, to be no or to be yes: what fills in the facts then, and before
+module _ (known facts p : ℕ) (unknown : bit known p ≡ false) (unsaid : bit facts p ≡ false) where
+  fills-no : (o : ℕ) → Fills known facts o → bit o p ≡ false → Fills (known + 2 ^ p) facts o
+  fills-no o a e i h =
+      by-equal i p (λ q. rw q (e ∙ sym unsaid)) (λ q. a i (sym (bit-else known p i unknown q) ∙ h))
+
+  fills-yes : (o : ℕ) → Fills known facts o → bit o p ≡ true → Fills (known + 2 ^ p) (facts + 2 ^ p) o
+  fills-yes o a e i h =
+      by-equal i p (λ q. rw q (e ∙ sym (bit-set facts p unsaid)))
+      (λ q. a i (sym (bit-else known p i unknown q) ∙ h) ∙ sym (bit-else facts p i unsaid q))
+
+  other : (i : ℕ) → bit known i ≡ true → i ≡ p → ⊥
+  other i h q = never (sym (rw q at h) ∙ unknown)
+
+  less-no : (o : ℕ) → Fills (known + 2 ^ p) facts o → Fills known facts o
+  less-no o a i h = a i (bit-else known p i unknown (other i h) ∙ h)
+
+  less-yes : (o : ℕ) → Fills (known + 2 ^ p) (facts + 2 ^ p) o → Fills known facts o
+  less-yes o a i h = a i (bit-else known p i unknown (other i h) ∙ h) ∙ bit-else facts p i unsaid (other i h)
+
+  -- what it says there
+  says-no : (o : ℕ) → Fills (known + 2 ^ p) facts o → bit o p ≡ false
+  says-no o a = a p (bit-set known p unknown) ∙ unsaid
+
+  says-yes : (o : ℕ) → Fills (known + 2 ^ p) (facts + 2 ^ p) o → bit o p ≡ true
+  says-yes o a = a p (bit-set known p unknown) ∙ bit-set facts p unsaid
+
+-- facts that say no to every predicate of a list come first of all that the list puts in order
+unfoldable NoneOf : List ℕ → ℕ → Type 0
+NoneOf [] facts = Unit
+NoneOf (p ∷ ps) facts = (bit facts p ≡ false) × NoneOf ps facts
+
+none-before : (ps : List ℕ) (facts o : ℕ) → NoneOf ps facts → beforeBy ps o facts ≡ true → ⊥
+unfolding beforeBy NoneOf
+none-before [] facts o h e = never (sym e)
+none-before (p ∷ ps) facts o h e = go (bit o p) (bit facts p) (h .0) e (none-before ps facts o (h .1))
+  where
+    go : (a b : Bool) → b ≡ false → cond (alike a b) (beforeBy ps o facts) b ≡ true → (beforeBy ps o facts ≡ true → ⊥) → ⊥
     go a true f e ih = never f
     go true false f e ih = never (sym e)
     go false false f e ih = ih e
 
 -- where two requests differ first, the one that says yes comes later
-same-first : (left k o m : ℕ) → bit o k ≡ bit m k → beforeFrom (suc left) k o m ≡ true → beforeFrom left (k + 1) o m ≡ true
-unfolding beforeFrom
-same-first left k o m e h = go (bit o k) (bit m k) e h
+same-first : (p : ℕ) (ps : List ℕ) (o m : ℕ) → bit o p ≡ bit m p → beforeBy (p ∷ ps) o m ≡ true → beforeBy ps o m ≡ true
+unfolding beforeBy
+same-first p ps o m e h = go (bit o p) (bit m p) e h
   where
-    go : (a b : Bool) → a ≡ b → cond (alike a b) (beforeFrom left (k + 1) o m) b ≡ true → beforeFrom left (k + 1) o m ≡ true
+    go : (a b : Bool) → a ≡ b → cond (alike a b) (beforeBy ps o m) b ≡ true → beforeBy ps o m ≡ true
     go true true e h = h
     go true false e h = never e
     go false true e h = never (sym e)
     go false false e h = h
 
-yes-later : (left k o m : ℕ) → bit o k ≡ true → bit m k ≡ false → beforeFrom (suc left) k o m ≡ true → ⊥
-unfolding beforeFrom
-yes-later left k o m a b h = never (sym (rw (a, b) at h))
+yes-later : (p : ℕ) (ps : List ℕ) (o m : ℕ) → bit o p ≡ true → bit m p ≡ false → beforeBy (p ∷ ps) o m ≡ true → ⊥
+unfolding beforeBy
+yes-later p ps o m a b h = never (sym (rw (a, b) at h))
 
 -- of two requests that differ on one of the predicates, one comes before the other
-pub neither-alike : (left k m o : ℕ) → beforeFrom left k m o ≡ false → beforeFrom left k o m ≡ false → (p : ℕ) → k ≤ p → p < k + left → bit m p ≡ bit o p
-unfolding beforeFrom
+pub neither-alike : (left k m o : ℕ) → beforeBy (predicatesFrom k left) m o ≡ false → beforeBy (predicatesFrom k left) o m ≡ false →
+    (p : ℕ) → k ≤ p → p < k + left → bit m p ≡ bit o p
+unfolding beforeBy predicatesFrom
 neither-alike zero k m o e f p h l = absurd (omega arith)
 neither-alike (suc left) k m o e f p h l =
     go (bit m k) (bit o k) refl refl e f (λ x y g. neither-alike left (k + 1) m o x y p g (omega arith))
   where
-    go : (a b : Bool) → bit m k ≡ a → bit o k ≡ b → cond (alike a b) (beforeFrom left (k + 1) m o) b ≡ false →
-        cond (alike b a) (beforeFrom left (k + 1) o m) a ≡ false →
-        (beforeFrom left (k + 1) m o ≡ false → beforeFrom left (k + 1) o m ≡ false → k + 1 ≤ p → bit m p ≡ bit o p) → bit m p ≡ bit o p
+    rest : ℕ → ℕ → Bool
+    rest = beforeBy (predicatesFrom (k + 1) left)
+
+    go : (a b : Bool) → bit m k ≡ a → bit o k ≡ b → cond (alike a b) (rest m o) b ≡ false → cond (alike b a) (rest o m) a ≡ false →
+        (rest m o ≡ false → rest o m ≡ false → k + 1 ≤ p → bit m p ≡ bit o p) → bit m p ≡ bit o p
     go true true x y e f on = by-order p (k + 1) (λ g. let q : p ≡ k = omega arith in rw (q, x, y)) (on e f)
     go false false x y e f on = by-order p (k + 1) (λ g. let q : p ≡ k = omega arith in rw (q, x, y)) (on e f)
     go true false x y e f on = never f
     go false true x y e f on = never e
 
 -- predicates that the later request says no to do not bring another before it
-before-fewer : (left more k o m : ℕ) → ((p : ℕ) → k + left ≤ p → bit m p ≡ false) → beforeFrom (left + more) k o m ≡ true → beforeFrom left k o m ≡ true
-unfolding beforeFrom
-before-fewer zero more k o m h e = absurd (none-before more k m o (λ p l. h p (omega arith)) (rw (zero-add more) at e))
+none-from : (left k facts : ℕ) → ((p : ℕ) → k ≤ p → bit facts p ≡ false) → NoneOf (predicatesFrom k left) facts
+unfolding NoneOf predicatesFrom
+none-from zero k facts h = tt
+none-from (suc left) k facts h = (h k (omega arith), none-from left (k + 1) facts (λ p l. h p (omega arith)))
+
+before-fewer : (left more k o m : ℕ) → ((p : ℕ) → k + left ≤ p → bit m p ≡ false) →
+    beforeBy (predicatesFrom k (left + more)) o m ≡ true → beforeBy (predicatesFrom k left) o m ≡ true
+unfolding beforeBy predicatesFrom
+before-fewer zero more k o m h e =
+    absurd (none-before (predicatesFrom k more) m o (none-from more k m (λ p l. h p (omega arith))) (rw (zero-add more) at e))
 before-fewer (suc left) more k o m h e =
     go (bit o k) (bit m k) (rw (suc-add left more) at e) (before-fewer left more (k + 1) o m (λ p l. h p (omega arith)))
   where
-    go : (a b : Bool) → cond (alike a b) (beforeFrom (left + more) (k + 1) o m) b ≡ true →
-        (beforeFrom (left + more) (k + 1) o m ≡ true → beforeFrom left (k + 1) o m ≡ true) → cond (alike a b) (beforeFrom left (k + 1) o m) b ≡ true
+    go : (a b : Bool) → cond (alike a b) (beforeBy (predicatesFrom (k + 1) (left + more)) o m) b ≡ true →
+        (beforeBy (predicatesFrom (k + 1) (left + more)) o m ≡ true → beforeBy (predicatesFrom (k + 1) left) o m ≡ true) →
+        cond (alike a b) (beforeBy (predicatesFrom (k + 1) left) o m) b ≡ true
     go true true e on = on e
     go true false e on = e
     go false true e on = e
     go false false e on = on e
 
-module _ (see : ℕ → ℕ → Look) (true-at : ℕ → Bool) (n : ℕ)
-    (right : (b : Bool) (k facts o : ℕ) → see k facts ≡ cond b True False → Agrees k facts o → true-at o ≡ b)
-    (shut : (facts : ℕ) → see n facts ≡ Open → ⊥) where
-  -- a breaking request within the facts, and no earlier one
-  record Breaks (left k facts m : ℕ) : Type 0 where
-    broken : true-at m ≡ false
-    small : m < 2 ^ n
-    within : Agrees k facts m
-    first : (o : ℕ) → Agrees k facts o → beforeFrom left k o m ≡ true → true-at o ≡ true
+-- the predicates known once a list of them is tried; and that each was unknown until its turn
+unfoldable pub tried : List ℕ → ℕ → ℕ
+tried [] known = known
+tried (p ∷ ps) known = tried ps (known + 2 ^ p)
 
-  abbrev Says : ℕ → ℕ → ℕ → Found → Type 0
-  Says left k facts (nothing c) = (o : ℕ) → Agrees k facts o → true-at o ≡ true
-  Says left k facts (breaking m c) = Breaks left k facts m
+unfoldable Fresh : List ℕ → ℕ → Type 0
+Fresh [] known = Unit
+Fresh (p ∷ ps) known = (bit known p ≡ false) × Fresh ps (known + 2 ^ p)
 
-  says-later : (left k facts c : ℕ) (w : Found) → Says left k facts w → Says left k facts (later c w)
-  says-later left k facts c (nothing d) h = h
-  says-later left k facts c (breaking m d) h = h
+unknown-still : (known p i : ℕ) → bit known p ≡ false → bit (known + 2 ^ p) i ≡ false → bit known i ≡ false
+unknown-still known p i u h =
+    by-equal i p (λ q. never (sym (bit-set known p u) ∙ (rw q at h))) (λ q. sym (bit-else known p i u q) ∙ h)
 
-  -- a settled-false visit
-  breaks-here : (left k facts : ℕ) → k ≤ n → facts < 2 ^ k → see k facts ≡ False → Breaks left k facts facts
-  breaks-here left k facts l h e = record {
-    broken = right false k facts facts e (λ p l. refl);
-    small = let g = pow-le-pow-right {n = 2} (omega arith) l in omega arith;
-    within = λ p l. refl;
-    first = λ o a b. absurd (none-before left k facts o (λ p l. bit-above facts k p h l) b);
+tried-more : (ps : List ℕ) (known i : ℕ) → Fresh ps known → bit (tried ps known) i ≡ false → bit known i ≡ false
+unfolding tried Fresh
+tried-more [] known i f h = h
+tried-more (p ∷ ps) known i f h = unknown-still known p i (f .0) (tried-more ps (known + 2 ^ p) i (f .1) h)
+
+-- the facts say yes only of what is known
+abbrev OnlyKnown : ℕ → ℕ → Type 0
+OnlyKnown known facts = (i : ℕ) → bit known i ≡ false → bit facts i ≡ false
+
+only-no : (known facts p : ℕ) → bit known p ≡ false → OnlyKnown known facts → OnlyKnown (known + 2 ^ p) facts
+only-no known facts p u t i h = t i (unknown-still known p i u h)
+
+only-yes : (known facts p : ℕ) → bit known p ≡ false → OnlyKnown known facts → OnlyKnown (known + 2 ^ p) (facts + 2 ^ p)
+only-yes known facts p u t i h =
+    bit-else facts p i (t p u) (λ q. never (sym (bit-set known p u) ∙ (rw q at h))) ∙ t i (unknown-still known p i u h)
+
+only-none : (ps : List ℕ) (known facts : ℕ) → Fresh ps known → OnlyKnown known facts → NoneOf ps facts
+unfolding Fresh NoneOf
+only-none [] known facts f t = tt
+only-none (p ∷ ps) known facts f t = (t p (f .0), only-none ps (known + 2 ^ p) facts (f .1) (only-no known facts p (f .0) t))
+
+-- what was found by visits and, if that is nothing, by others
+abbrev firstOf : Option ℕ → Option ℕ → Option ℕ
+firstOf none g = g
+firstOf (some m) g = some m
+
+found-else : (first second : List Visit) → found (orElse first second) ≡ firstOf (found first) (found second)
+found-else first second = go (found first) refl
+  where
+    go : (f : Option ℕ) → found first ≡ f → found (first ++ ifNone f second) ≡ firstOf f (found second)
+    go none e = found-behind first second e
+    go (some m) e = ap found (append-nil first) ∙ e
+
+-- A walk over any predicates, for anything to be hit: where a visit ends with nothing, no filling of its facts is a hit; where it found, its facts with every
+-- other predicate no are one; and it does not go on once all are tried.
+module _ (see : ℕ → ℕ → Look) (hit : ℕ → Bool) (all : ℕ)
+    (nowhere : (known facts o : ℕ) → see known facts ≡ Nothing → Fills known facts o → hit o ≡ false)
+    (there : (known facts : ℕ) → OnlyKnown known facts → see known facts ≡ Found → hit facts ≡ true)
+    (shut : (facts : ℕ) → see all facts ≡ Open → ⊥) where
+  -- a hit within the facts, and no earlier one
+  record First (ps : List ℕ) (known facts m : ℕ) : Type 0 where
+    hits : hit m ≡ true
+    fills : Fills known facts m
+    small : (i : ℕ) → bit all i ≡ false → bit m i ≡ false
+    first : (o : ℕ) → Fills known facts o → beforeBy ps o m ≡ true → hit o ≡ false
+
+  abbrev Says : List ℕ → ℕ → ℕ → Option ℕ → Type 0
+  Says ps known facts none = (o : ℕ) → Fills known facts o → hit o ≡ false
+  Says ps known facts (some m) = First ps known facts m
+
+  -- what a walk is begun with
+  record Begun (ps : List ℕ) (known facts : ℕ) : Type 0 where
+    fresh : Fresh ps known
+    only : OnlyKnown known facts
+    ends : tried ps known ≡ all
+
+  -- a visit that found
+  hit-here : (ps : List ℕ) (known facts : ℕ) → Begun ps known facts → see known facts ≡ Found → First ps known facts facts
+  hit-here ps known facts b e = record {
+    hits = there known facts (b .only) e;
+    fills = λ i h. refl;
+    small = λ i h. b .only i (tried-more ps known i (b .fresh) (rw (b .ends) h));
+    first = λ o a l. absurd (none-before ps facts o (only-none ps known facts (b .fresh) (b .only)) l);
   }
 
-  -- an unsettled visit
-  says-both : (left k facts : ℕ) → facts < 2 ^ k → (w v : Found) → Says left (k + 1) facts w → Says left (k + 1) (facts + 2 ^ k) v →
-      Says (suc left) k facts (orElse w v)
-  says-both left k facts h (breaking m c) v x y = record {
-    broken = x .broken;
-    small = x .small;
-    within = less-no k facts m (x .within);
-    first = λ o a b. at o a b (bit o k) refl;
-  }
-    where
-      no : bit m k ≡ false
-      no = x .within k (omega arith) ∙ bit-above facts k k h (omega arith)
+  -- one that goes on, with predicate p no and then yes
+  module _ (p : ℕ) (ps : List ℕ) (known facts : ℕ) (u : bit known p ≡ false) (unsaid : bit facts p ≡ false) where
+    says-both : (f g : Option ℕ) → Says ps (known + 2 ^ p) facts f → Says ps (known + 2 ^ p) (facts + 2 ^ p) g → Says (p ∷ ps) known facts (firstOf f g)
+    says-both (some m) g x y = record {
+      hits = x .hits;
+      fills = less-no known facts p u unsaid m (x .fills);
+      small = x .small;
+      first = λ o a l. at o a l (bit o p) refl;
+    }
+      where
+        at : (o : ℕ) → Fills known facts o → beforeBy (p ∷ ps) o m ≡ true → (t : Bool) → bit o p ≡ t → hit o ≡ false
+        at o a l true e = absurd (yes-later p ps o m e (says-no known facts p u unsaid m (x .fills)) l)
+        at o a l false e =
+            x .first o (fills-no known facts p u unsaid o a e) (same-first p ps o m (e ∙ sym (says-no known facts p u unsaid m (x .fills))) l)
+    says-both none none x y = λ o a. at o a (bit o p) refl
+      where
+        at : (o : ℕ) → Fills known facts o → (t : Bool) → bit o p ≡ t → hit o ≡ false
+        at o a true e = y o (fills-yes known facts p u unsaid o a e)
+        at o a false e = x o (fills-no known facts p u unsaid o a e)
+    says-both none (some m) x y = record {
+      hits = y .hits;
+      fills = less-yes known facts p u unsaid m (y .fills);
+      small = y .small;
+      first = λ o a l. at o a l (bit o p) refl;
+    }
+      where
+        at : (o : ℕ) → Fills known facts o → beforeBy (p ∷ ps) o m ≡ true → (t : Bool) → bit o p ≡ t → hit o ≡ false
+        at o a l true e =
+            y .first o (fills-yes known facts p u unsaid o a e) (same-first p ps o m (e ∙ sym (says-yes known facts p u unsaid m (y .fills))) l)
+        at o a l false e = x o (fills-no known facts p u unsaid o a e)
 
-      at : (o : ℕ) → Agrees k facts o → beforeFrom (suc left) k o m ≡ true → (t : Bool) → bit o k ≡ t → true-at o ≡ true
-      at o a b true e = absurd (yes-later left k o m e no b)
-      at o a b false e = x .first o (agrees-no k facts o h a e) (same-first left k o m (e ∙ sym no) b)
-  says-both left k facts h (nothing c) (nothing d) x y = λ o a. at o a (bit o k) refl
+  says : (ps : List ℕ) (known facts : ℕ) → Begun ps known facts → Says ps known facts (found (visitsFrom see ps known facts))
+  unfolding visitsFrom found tried Fresh
+  says [] known facts b = go (see known facts) refl
     where
-      at : (o : ℕ) → Agrees k facts o → (t : Bool) → bit o k ≡ t → true-at o ≡ true
-      at o a true e = y o (agrees-yes k facts o h a e)
-      at o a false e = x o (agrees-no k facts o h a e)
-  says-both left k facts h (nothing c) (breaking m d) x y = record {
-    broken = y .broken;
-    small = y .small;
-    within = less-yes k facts m (y .within);
-    first = λ o a b. at o a b (bit o k) refl;
-  }
+      go : (l : Look) → see known facts ≡ l → Says [] known facts (foundAt l facts none)
+      go Nothing e = λ o a. nowhere known facts o e a
+      go Found e = hit-here [] known facts b e
+      go Open e = absurd (shut facts (ap (λ (k : ℕ). see k facts) (sym (b .ends)) ∙ e))
+  says (p ∷ ps) known facts b =
+      let no = visitsFrom see ps (known + 2 ^ p) facts in
+      let yes = visitsFrom see ps (known + 2 ^ p) (facts + 2 ^ p) in
+      let u = b .fresh .0 in
+      go (see known facts) refl
+      (subst (Says (p ∷ ps) known facts) (sym (found-else no yes))
+      (says-both p ps known facts u (b .only p u) (found no) (found yes)
+      (says ps (known + 2 ^ p) facts (record { fresh = b .fresh .1; only = only-no known facts p u (b .only); ends = b .ends }))
+      (says ps (known + 2 ^ p) (facts + 2 ^ p) (record { fresh = b .fresh .1; only = only-yes known facts p u (b .only); ends = b .ends }))))
     where
-      yea : bit m k ≡ true
-      yea = y .within k (omega arith) ∙ bit-with facts k h
+      both : List Visit
+      both = orElse (visitsFrom see ps (known + 2 ^ p) facts) (visitsFrom see ps (known + 2 ^ p) (facts + 2 ^ p))
 
-      at : (o : ℕ) → Agrees k facts o → beforeFrom (suc left) k o m ≡ true → (t : Bool) → bit o k ≡ t → true-at o ≡ true
-      at o a b true e = y .first o (agrees-yes k facts o h a e) (same-first left k o m (e ∙ sym yea) b)
-      at o a b false e = x o (agrees-no k facts o h a e)
+      go : (l : Look) → see known facts ≡ l → Says (p ∷ ps) known facts (found both) →
+          Says (p ∷ ps) known facts (foundAt l facts (found (below l both)))
+      go Nothing e w = λ o a. nowhere known facts o e a
+      go Found e w = hit-here (p ∷ ps) known facts b e
+      go Open e w = w
 
-  says : (left k facts : ℕ) → k + left ≡ n → facts < 2 ^ k → Says left k facts (walkFrom see left k facts)
-  unfolding walkFrom
-  says zero k facts q h = go (see k facts) refl
-    where
-      go : (l : Look) → see k facts ≡ l → Says zero k facts (visit l facts (nothing 0))
-      go True e = λ o a. right true k facts o e a
-      go False e = breaks-here zero k facts (omega arith) h e
-      go Open e = absurd (shut facts (let r : n ≡ k = omega arith in rw r e))
-  says (suc left) k facts q h =
-      go (see k facts) refl
-      (says-both left k facts h (walkFrom see left (k + 1) facts) (walkFrom see left (k + 1) (facts + 2 ^ k))
-      (says left (k + 1) facts (omega arith) (omega (arith, power-twice k)))
-      (says left (k + 1) (facts + 2 ^ k) (omega arith) (omega (arith, power-twice k))))
-    where
-      go : (l : Look) → see k facts ≡ l → Says (suc left) k facts (orElse (walkFrom see left (k + 1) facts) (walkFrom see left (k + 1) (facts + 2 ^ k))) →
-          Says (suc left) k facts (visit l facts (orElse (walkFrom see left (k + 1) facts) (walkFrom see left (k + 1) (facts + 2 ^ k))))
-      go True e both = λ o a. right true k facts o e a
-      go False e both = breaks-here (suc left) k facts (omega arith) h e
-      go Open e both = says-later (suc left) k facts 1 (orElse (walkFrom see left (k + 1) facts) (walkFrom see left (k + 1) (facts + 2 ^ k))) both
+-- predicates in order, of which those below k are known
+fresh-from : (left k : ℕ) → Fresh (predicatesFrom k left) (2 ^ k - 1)
+unfolding Fresh predicatesFrom
+fresh-from zero k = tt
+fresh-from (suc left) k =
+    (bit-above (2 ^ k - 1) k k (omega (arith, power-positive k)) (omega arith), rw (known-more k) (fresh-from left (k + 1)))
 
--- a request that agrees with the facts fills the missing ones in
-fills : (k facts o : ℕ) → Agrees k facts o → (p : ℕ) → bit (2 ^ k - 1) p ≡ true → bit o p ≡ bit facts p
-fills k facts o a p e =
-    by-order p k (a p) (λ h. never (sym e ∙ bit-above (2 ^ k - 1) k p (let q = power-positive k in omega arith) h))
+pub tried-from : (left k : ℕ) → tried (predicatesFrom k left) (2 ^ k - 1) ≡ 2 ^ (k + left) - 1
+unfolding tried predicatesFrom
+tried-from zero k = let q : k + 0 ≡ k = omega arith in rw q
+tried-from (suc left) k =
+    let q : k + 1 + left ≡ k + suc left = omega arith in
+    ap (tried (predicatesFrom (k + 1) left)) (known-more k) ∙ tried-from left (k + 1) ∙ ap (λ (k : ℕ). 2 ^ k - 1) q
 
 -- the questions of a table
 module _ (rows questions : List Entry) (n : ℕ) (covers : Covers n rows) (j : ℕ) where
@@ -192,38 +291,45 @@ module _ (rows questions : List Entry) (n : ℕ) (covers : Covers n rows) (j : �
   abbrev trueAt : ℕ → Bool
   trueAt o = truth rows questions o j
 
-  -- a settled visit sees the truth at every request that agrees with its facts
-  right : (b : Bool) (k facts o : ℕ) → see k facts ≡ cond b True False → Agrees k facts o → trueAt o ≡ b
-  right b k facts o e a =
-      settled (truthSet rows questions (2 ^ k - 1) facts j) b (trueAt o) e (filling-truth rows questions (2 ^ k - 1) facts o j (fills k facts o a))
+  -- a settled visit sees the truth at every request that fills in its facts
+  right : (b : Bool) (known facts o : ℕ) → see known facts ≡ cond b Nothing Found → Fills known facts o → trueAt o ≡ b
+  right b known facts o e a = settled (truthSet rows questions known facts j) b (trueAt o) e (filling-truth rows questions known facts o j a)
 
   -- "At k = n every question is settled."
-  pub settled-at-n : (facts : ℕ) → see n facts ≡ Open → ⊥
+  pub settled-at-n : (facts : ℕ) → see (2 ^ n - 1) facts ≡ Open → ⊥
   settled-at-n facts e = single-settled (trueAt facts) (sym (ap look (known-truth rows questions n covers (2 ^ n - 1) facts j (bit-known n))) ∙ e)
 
-  said : Says see trueAt n right settled-at-n n 0 0 (walk rows questions n j)
-  said = says see trueAt n right settled-at-n n 0 0 (omega arith) (omega arith)
+  abbrev breaks : ℕ → Bool
+  breaks o = not (trueAt o)
+
+  nowhere : (known facts o : ℕ) → see known facts ≡ Nothing → Fills known facts o → breaks o ≡ false
+  nowhere known facts o e a = ap not (right true known facts o e a)
+
+  there : (known facts : ℕ) → OnlyKnown known facts → see known facts ≡ Found → breaks facts ≡ true
+  there known facts only e = ap not (right false known facts facts e (λ i h. refl))
+
+  said : Says see breaks (2 ^ n - 1) nowhere there settled-at-n (predicatesFrom 0 n) 0 0 (found (walk rows questions n j))
+  said = says see breaks (2 ^ n - 1) nowhere there settled-at-n (predicatesFrom 0 n) 0 0 (record {
+    fresh = fresh-from n 0;
+    only = λ i h. h;
+    ends = let q : 0 + n ≡ n = omega arith in rw q at (tried-from n 0);
+  })
+
+  nothing-known : (o : ℕ) → Fills 0 0 o
+  nothing-known o i h = never (sym h ∙ bit-above 0 0 i (omega arith) (omega arith))
 
   -- where the walk finds nothing, the question is true at every request
-  pub nothing-holds : (c : ℕ) → walk rows questions n j ≡ nothing c → (o : ℕ) → trueAt o ≡ true
-  nothing-holds c e o = (rw e at said) o (λ p l. absurd (omega arith))
+  pub nothing-holds : found (walk rows questions n j) ≡ none → (o : ℕ) → trueAt o ≡ true
+  nothing-holds e o = not-false (trueAt o) ((rw e at said) o (nothing-known o))
 
   -- where it finds a request, that one breaks the question, has no bit from n up, and every request before it keeps the question: over the n predicates,
   -- and so over any greater number of them
-  pub breaking-first : (m c : ℕ) → walk rows questions n j ≡ breaking m c →
+  pub breaking-first : (m : ℕ) → found (walk rows questions n j) ≡ some m →
       (trueAt m ≡ false) × (m < 2 ^ n) × ((more o : ℕ) → comesBefore (n + more) o m ≡ true → trueAt o ≡ true)
-  breaking-first m c e =
-      let b = rw e at said in (
-        b .broken,
-        b .small,
-        λ more o h. b .first o (λ p l. absurd (omega arith))
-            (before-fewer n more 0 o m (λ p l. bit-above m n p (b .small) (omega arith)) h),
+  breaking-first m e =
+      let b = rw e at said in
+      let none-above : (i : ℕ) → n ≤ i → bit m i ≡ false = λ i l. b .small i (bit-above (2 ^ n - 1) n i (omega (arith, power-positive n)) l) in (
+        not-true (trueAt m) (b .hits),
+        bits-below n m none-above,
+        λ more o h. not-false (trueAt o) (b .first o (nothing-known o) (before-fewer n more 0 o m (λ p l. none-above p (omega arith)) h)),
       )
-
-  -- "A question holds if it is true at every request": over the n predicates, and so over any number of them
-  pub holds-if-true : ((o : ℕ) → o < 2 ^ n → trueAt o ≡ true) → (c : ℕ) × (walk rows questions n j ≡ nothing c)
-  holds-if-true h = go (walk rows questions n j) refl
-    where
-      go : (w : Found) → walk rows questions n j ≡ w → (c : ℕ) × (walk rows questions n j ≡ nothing c)
-      go (nothing c) e = (c, e)
-      go (breaking m c) e = let b = breaking-first m c e in never (sym (h m (b .1)) ∙ b .0)

@@ -1,10 +1,9 @@
--- Laws of questions and of the walk; below this file, a folder for each function that has a proof of its own.
+-- Laws of the walk; below this file, a folder for each function that has a proof of its own.
 pub mod Powers
 pub mod Bits
 pub mod Looks
-pub mod QuestionLoop
+pub mod Sights
 pub mod Replies
-pub mod TruthSets
 pub mod Answers
 pub mod Budgets
 pub mod Renaming

@@ -7,20 +7,20 @@ use native.Mathlib.Omega.{arith}
 use Rattle.decide.specs.Meaning.{bit}
 use Rattle.possible.specs.Sets.{truths, Set, single, ofMask}
 use Rattle.possible.proofs.Masks.{low}
-use Rattle.walk.specs.declared.questions.Look.the-variants.{True, False, Open}
-use Rattle.walk.specs.Questions.{look}
+use Rattle.walk.specs.declared.Look.the-variants.{Nothing, Found, Open}
+use Rattle.walk.specs.Walk.{look}
 
 -- a set that is seen settled has no other member
-pub settled : (t : Set truths) (b r : Bool) → look t ≡ cond b True False → t .has r ≡ true → r ≡ b
+pub settled : (t : Set truths) (b r : Bool) → look t ≡ cond b Nothing Found → t .has r ≡ true → r ≡ b
 settled t true true e q = refl
 settled t true false e q = absurd (at (t .has true) (rw q at e))
   where
-    at : (h : Bool) → cond h Open False ≡ True → ⊥
+    at : (h : Bool) → cond h Open Found ≡ Nothing → ⊥
     at true e = let z : _≡_ {A = ℕ} 0 1 = cc in omega arith
     at false e = let z : _≡_ {A = ℕ} 0 1 = cc in omega arith
 settled t false true e q = absurd (at (t .has false) (rw q at e))
   where
-    at : (h : Bool) → cond h Open True ≡ False → ⊥
+    at : (h : Bool) → cond h Open Nothing ≡ Found → ⊥
     at true e = let z : _≡_ {A = ℕ} 0 1 = cc in omega arith
     at false e = let z : _≡_ {A = ℕ} 0 1 = cc in omega arith
 settled t false false e q = refl

@@ -1,157 +1,63 @@
--- Questions over rows under new numbers: they are true at the same requests, have the same sets, and get the same verdict, request and count with every budget
--- (the letter's second demand; decide/proofs/Renaming.antt).
+-- The walk over more predicates, and over rows under new numbers: the same visits, so the same verdict, request and count with every budget (the letter's
+-- second demand; decide/proofs/Renaming.antt, questions/proofs/Renaming.antt).
 -- Assumes nothing.
 use mathlib.Core.Path.{_≡_, refl, sym, ap, fun-ext, _∙_}
-use mathlib.Core.Bool.{Bool, true, false, cond}
-use mathlib.Core.List.{List}
-use mathlib.Core.Logic.{_⊎_, ⊎-elim}
+use mathlib.Core.List.{List, [], _∷_, _++_}
 use Prim.Native.Nat.{ℕ, zero, suc, _+_, _-_, _^_, _≤_}
 use native.Mathlib.Omega.{arith}
-use lib.ListN.{getD}
-use Rattle.belnap.proofs.Finite.{never}
-use Rattle.kinds.specs.declared.QuestionKind.{QuestionKind}
-use Rattle.kinds.specs.declared.QuestionKind.the-variants.{Compare, Not, Both}
-use Rattle.kinds.specs.declared.Kind.{Kind}
-use Rattle.kinds.specs.declared.Kind.the-variants.{Row, Question}
 use Rattle.entries.specs.declared.Entry.{Entry}
-use Rattle.kinds.specs.Kinds.{isQuestion, asQuestion}
-use Rattle.entries.specs.Entries.{blank}
-use Rattle.entries.specs.Renaming.{namesRow, renamed}
-use Rattle.entries.proofs.Numbers.{by-order}
 use Rattle.table.specs.Contents.{Covers}
-use Rattle.decide.specs.Rows.{values, valueAt}
-use Rattle.decide.specs.Meaning.{decision}
-use Rattle.decide.proofs.RowByRow.{by-rows, before-there, before-past}
-use Rattle.decide.proofs.Renaming.{Renames, decision-kept}
-use Rattle.possible.specs.Sets.{single}
-use Rattle.possible.specs.Possible.{possible}
-use Rattle.possible.proofs.Renaming.{possible-kept}
-use Rattle.walk.specs.declared.questions.Look.{Look}
-use Rattle.walk.specs.declared.questions.Look.the-variants.{True, False, Open}
-use Rattle.walk.specs.Questions.{truthBy, truth, truthSetBy, truthSet, look}
-use Rattle.walk.specs.Walk.{Found, nothing, visit, orElse, walkFrom, sees, walk}
-use Rattle.walk.proofs.Answers.{settled-at-n}
+use Rattle.decide.proofs.Renaming.{Renames}
+use Rattle.questions.proofs.Renaming.{Follows, truths-kept}
+use Rattle.walk.specs.declared.Look.{Look}
+use Rattle.walk.specs.declared.Look.the-variants.{Nothing, Found, Open}
+use Rattle.walk.specs.Walk.{Visit, look, visit, orElse, below, visitsFrom, predicatesFrom, walkBy, sees, walk}
+use Rattle.walk.proofs.Answers.{tried, tried-from, settled-at-n}
 
--- a question's value comes from those of the rows that it compares, or else from those of the questions that it asks
-abbrev compares : QuestionKind → Bool
-compares (Compare o) = true
-compares Not = false
-compares Both = false
+-- a walk in which every visit is settled once a list of predicates is tried makes no other visits where more are left
+below-shut : (l : Look) (vs : List Visit) → (l ≡ Open → ⊥) → [] ≡ below l vs
+below-shut Nothing vs h = refl
+below-shut Found vs h = refl
+below-shut Open vs h = absurd (h refl)
 
-abbrev Answers : {A B : Type 0} → (QuestionKind → B → B → A → A → A) → Type 0
-Answers {A} {B} f =
-    (k : QuestionKind) (s t p q : B) (x y u v : A) → (compares k ≡ true → (s ≡ p) × (t ≡ q)) → (compares k ≡ false → (x ≡ u) × (y ≡ v)) → f k s t x y ≡ f k p q
-    u v
+walk-shut : (see : ℕ → ℕ → Look) (ps more : List ℕ) (known facts : ℕ) → ((facts : ℕ) → see (tried ps known) facts ≡ Open → ⊥) →
+    visitsFrom see ps known facts ≡ visitsFrom see (ps ++ more) known facts
+unfolding visitsFrom tried
+walk-shut see [] [] known facts shut = refl
+walk-shut see [] (p ∷ more) known facts shut =
+    let both = orElse (visitsFrom see more (known + 2 ^ p) facts) (visitsFrom see more (known + 2 ^ p) (facts + 2 ^ p)) in
+    ap (λ (vs : List Visit). visit see known facts ∷ vs) (below-shut (see known facts) both (shut facts))
+walk-shut see (p ∷ ps) more known facts shut =
+    rw (walk-shut see ps more (known + 2 ^ p) facts shut, walk-shut see ps more (known + 2 ^ p) (facts + 2 ^ p) shut)
 
-truth-answers : Answers truthBy
-truth-answers (Compare o) s t p q x y u v rows asked = rw (rows refl .0, rows refl .1)
-truth-answers Not s t p q x y u v rows asked = rw (asked refl .0)
-truth-answers Both s t p q x y u v rows asked = rw (asked refl .0, asked refl .1)
-
-set-answers : Answers truthSetBy
-unfolding truthSetBy
-set-answers (Compare o) s t p q x y u v rows asked = rw (rows refl .0, rows refl .1)
-set-answers Not s t p q x y u v rows asked = rw (asked refl .0)
-set-answers Both s t p q x y u v rows asked = rw (asked refl .0, asked refl .1)
-
--- a question, or what stands past the last one
-abbrev pub Asked : Entry → Type 0
-Asked e = (isQuestion (e .kind) ≡ true) ⊎ (e ≡ blank)
-
--- its numbers are row numbers, or question numbers, which stay
-rows-named : (e : Entry) → Asked e → compares (asQuestion (e .kind)) ≡ true → (namesRow 0 e ≡ true) × (namesRow 1 e ≡ true)
-rows-named e = ⊎-elim (λ q c. go (e .kind) (e .a) (e .b) q c) (λ q c. never (sym (rw q at c)))
-  where
-    go : (k : Kind) (a b : ℕ) → isQuestion k ≡ true → compares (asQuestion k) ≡ true →
-        (namesRow 0 (record { kind = k; a = a; b = b }) ≡ true) × (namesRow 1 (record { kind = k; a = a; b = b }) ≡ true)
-    go (Row k) a b q c = never (sym q)
-    go (Question (Compare o)) a b q c = (refl, refl)
-    go (Question Not) a b q c = never (sym c)
-    go (Question Both) a b q c = never (sym c)
-
-numbers-stay : (new : ℕ → ℕ) (e : Entry) → Asked e → compares (asQuestion (e .kind)) ≡ false → (renamed new e .a ≡ e .a) × (renamed new e .b ≡ e .b)
-numbers-stay new e = ⊎-elim (λ q c. go (e .kind) (e .a) (e .b) q c) (λ q c. rw q (refl, refl))
-  where
-    go : (k : Kind) (a b : ℕ) → isQuestion k ≡ true → compares (asQuestion k) ≡ false →
-        (renamed new (record { kind = k; a = a; b = b }) .a ≡ a) × (renamed new (record { kind = k; a = a; b = b }) .b ≡ b)
-    go (Row k) a b q c = never (sym q)
-    go (Question (Compare o)) a b q c = never c
-    go (Question Not) a b q c = (refl, refl)
-    go (Question Both) a b q c = (refl, refl)
-
--- questions that name rows which are kept, under their new numbers
-pub record Follows (new : ℕ → ℕ) (Kept : ℕ → Type 0) (questions fresh : List Entry) : Type 0 where
-  pub stands : (j : ℕ) → getD fresh j blank ≡ renamed new (getD questions j blank)
-  pub asked : (j : ℕ) → Asked (getD questions j blank)
-  pub first : (j : ℕ) → namesRow 0 (getD questions j blank) ≡ true → Kept (getD questions j blank .a)
-  pub second : (j : ℕ) → namesRow 1 (getD questions j blank) ≡ true → Kept (getD questions j blank .b)
-
--- every question has the value it had, if the rows have theirs
-module _ {new : ℕ → ℕ} {Kept : ℕ → Type 0} {questions fresh : List Entry} (w : Follows new Kept questions fresh) {A B : Type 0}
-    (f : QuestionKind → B → B → A → A → A) (z : A) (answers : Answers f) (g h : ℕ → B) (rows-kept : (x : ℕ) → Kept x → g (new x) ≡ h x) where
-  abbrev after : Entry → A → A → A
-  after e x y = f (asQuestion (e .kind)) (g (e .a)) (g (e .b)) x y
-
-  abbrev before : Entry → A → A → A
-  before e x y = f (asQuestion (e .kind)) (h (e .a)) (h (e .b)) x y
-
-  question-kept : (j : ℕ) → valueAt after z fresh j ≡ valueAt before z questions j
-  unfolding valueAt
-  question-kept = by-rows (λ j. valueAt after z fresh j ≡ valueAt before z questions j) (λ j ih.
-      let e = getD questions j blank in
-      let row : (x : ℕ) (b : Bool) → b ≡ true → Kept x → g (cond b (new x) x) ≡ h x = λ x b t k. ap (λ (b : Bool). g (cond b (new x) x)) t ∙ rows-kept x k in
-      let question : (x y : ℕ) → y ≡ x → getD (values after z fresh j) y z ≡ getD (values before z questions j) x z =
-      λ x y q. ap (λ (y : ℕ). getD (values after z fresh j) y z) q ∙ by-order x j
-      (λ l. before-there after z fresh j x l ∙ ih x l ∙ sym (before-there before z questions j x l))
-      (λ l. before-past after z fresh j x l ∙ sym (before-past before z questions j x l)) in
-      ap (λ (d : Entry). after d (getD (values after z fresh j) (d .a) z) (getD (values after z fresh j) (d .b) z)) (w .stands j)
-      ∙ answers (asQuestion (e .kind)) _ _ _ _ _ _ _ _
-      (λ c. let n = rows-named e (w .asked j) c in
-      (row (e .a) (namesRow 0 e) (n .0) (w .first j (n .0)), row (e .b) (namesRow 1 e) (n .1) (w .second j (n .1))))
-      (λ c. let n = numbers-stay new e (w .asked j) c in (question (e .a) (renamed new e .a) (n .0), question (e .b) (renamed new e .b) (n .1))))
-
--- a walk in which every visit is settled once n predicates are known makes no other visits where more are left
-visit-shut : (l : Look) (facts : ℕ) (v w : Found) → (l ≡ Open → ⊥) → visit l facts v ≡ visit l facts w
-visit-shut True facts v w h = refl
-visit-shut False facts v w h = refl
-visit-shut Open facts v w h = absurd (h refl)
-
-walk-shut : (see : ℕ → ℕ → Look) (n : ℕ) → ((facts : ℕ) → see n facts ≡ Open → ⊥) → (left more k facts : ℕ) → k + left ≡ n →
-    walkFrom see left k facts ≡ walkFrom see (left + more) k facts
-unfolding walkFrom
-walk-shut see n shut zero zero k facts q = refl
-walk-shut see n shut zero (suc more) k facts q =
-    let p : 0 + suc more ≡ suc more = omega arith in
-    let here : k ≡ n = omega arith in
-    rw p (visit-shut (see k facts) facts (nothing 0) (orElse (walkFrom see more (k + 1) facts) (walkFrom see more (k + 1) (facts + 2 ^ k)))
-    (λ e. shut facts (ap (λ (k : ℕ). see k facts) (sym here) ∙ e)))
-walk-shut see n shut (suc left) more k facts q =
-    let p : suc left + more ≡ suc (left + more) = omega arith in
-    let a = walk-shut see n shut left more (k + 1) facts (omega arith) in
-    let b = walk-shut see n shut left more (k + 1) (facts + 2 ^ k) (omega arith) in
-    rw (p, a, b)
+predicates-more : (k left more : ℕ) → predicatesFrom k left ++ predicatesFrom (k + left) more ≡ predicatesFrom k (left + more)
+unfolding predicatesFrom
+predicates-more k zero more =
+    let p : k + 0 ≡ k = omega arith in
+    let q : 0 + more ≡ more = omega arith in
+    rw (p, q)
+predicates-more k (suc left) more =
+    let p : k + suc left ≡ k + 1 + left = omega arith in
+    let q : suc left + more ≡ suc (left + more) = omega arith in
+    rw (p, q) (ap (λ (ps : List ℕ). k ∷ ps) (predicates-more (k + 1) left more))
 
 -- so the walk is the same for every n that covers the predicates used
 pub more-predicates : (rows questions : List Entry) (n : ℕ) → Covers n rows → (m : ℕ) → n ≤ m → (j : ℕ) → walk rows questions n j ≡ walk rows questions m j
 more-predicates rows questions n covers m l j =
+    let see = sees rows questions j in
     let sum : n + (m - n) ≡ m = omega arith in
-    walk-shut (sees rows questions j) n (settled-at-n rows questions n covers j) n (m - n) 0 0 (omega arith)
-    ∙ ap (λ (left : ℕ). walkFrom (sees rows questions j) left 0 0) sum
+    let all : tried (predicatesFrom 0 n) 0 ≡ 2 ^ n - 1 = let q : 0 + n ≡ n = omega arith in rw q at (tried-from n 0) in
+    walk-shut see (predicatesFrom 0 n) (predicatesFrom (0 + n) (m - n)) 0 0
+    (λ facts e. settled-at-n rows questions n covers j facts (ap (λ (known : ℕ). see known facts) (sym all) ∙ e))
+    ∙ ap (λ (ps : List ℕ). visitsFrom see ps 0 0) (predicates-more 0 n (m - n) ∙ ap (predicatesFrom 0) sum)
 
 -- the questions of a table whose rows got new numbers
 module _ {new : ℕ → ℕ} {Kept : ℕ → Type 0} {rows others questions asked : List Entry} (r : Renames new Kept rows others) (w : Follows new Kept questions asked)
   where
-    pub truth-kept : (m j : ℕ) → truth others asked m j ≡ truth rows questions m j
-    truth-kept m = question-kept w truthBy true truth-answers (decision others m) (decision rows m) (decision-kept r m)
-
-    pub truths-kept : (known request j : ℕ) → truthSet others asked known request j ≡ truthSet rows questions known request j
-    truths-kept known request =
-        question-kept w truthSetBy (single true) set-answers (possible others known request) (possible rows known request) (possible-kept r known request)
-
     sees-kept : (j : ℕ) → sees others asked j ≡ sees rows questions j
-    sees-kept j = fun-ext (λ k. fun-ext (λ facts. ap look (truths-kept (2 ^ k - 1) facts j)))
+    sees-kept j = fun-ext (λ known. fun-ext (λ facts. ap look (truths-kept r w known facts j)))
 
     -- though n may be smaller now
     pub walk-kept : (n : ℕ) → Covers n others → (m : ℕ) → n ≤ m → (j : ℕ) → walk others asked n j ≡ walk rows questions m j
     walk-kept n covers m l j =
-        more-predicates others asked n covers m l j ∙ ap (λ (see : ℕ → ℕ → Look). walkFrom see m 0 0) (sees-kept j)
+        more-predicates others asked n covers m l j ∙ ap (λ (see : ℕ → ℕ → Look). walkBy see m) (sees-kept j)

@@ -1,4 +1,4 @@
--- What the promises of this crate mean: a question's truth and its set, the walk that answers it, and 01's order of requests.
-pub mod Questions
+-- What the promises of this crate mean: the walk that answers a question, 01's order of requests, and what inner functions speak of.
 pub mod Walk
 pub mod Order
+pub mod Inner

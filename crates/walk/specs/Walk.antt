@@ -1,71 +1,89 @@
--- The walk that answers a question (01, "The walk that answers a question"), over what a visit sees.
-use Prim.Native.Nat.{ℕ, zero, suc, _+_, _-_, _^_}
-use mathlib.Core.Bool.{cond}
-use mathlib.Core.List.{List}
+-- The walk that answers a question (01, "The walk that answers a question"): the visits that it makes, in order. What was found is found by one of them,
+-- their number is the count, and a budget is spent on the first of them. Stated over the predicates to be tried, and over what a visit sees where these
+-- predicates are known and these of them yes.
+use Prim.Native.Nat.{ℕ, zero, suc, _+_, _^_}
+use mathlib.Core.Bool.{true, false, cond}
+use mathlib.Core.List.{List, [], _∷_, _++_}
+use mathlib.Core.Option.{Option, none, some}
 use lib.Dec.{leb}
+use lib.ListN.{length}
 use Rattle.entries.specs.declared.Entry.{Entry}
-use Rattle.walk.specs.declared.questions.Look.{Look}
-use Rattle.walk.specs.declared.questions.Look.the-variants.{True, False, Open}
+use Rattle.possible.specs.Sets.{truths, Set}
+use Rattle.questions.specs.Questions.{truthSet}
+use Rattle.walk.specs.declared.Look.{Look}
+use Rattle.walk.specs.declared.Look.the-variants.{Nothing, Found, Open}
 use Rattle.walk.specs.declared.Reply.{Reply}
 use Rattle.walk.specs.declared.Reply.the-variants.{Holds, Fails, Unfinished}
-use Rattle.walk.specs.Questions.{truthSet, look}
 
--- what a walk found, and after how many visits: nothing, or a breaking request
-pub data Found : Type 0 where
-  nothing : ℕ → Found
-  breaking : ℕ → ℕ → Found
+-- "A question is settled when its set has one member": settled true, nothing breaks it here; settled false, a breaking request is found; or neither yet
+abbrev pub look : Set truths → Look
+look t = cond (t .has false) (cond (t .has true) Open Found) (cond (t .has true) Nothing Open)
 
-abbrev pub visits : Found → ℕ
-visits (nothing n) = n
-visits (breaking m n) = n
+-- a visit: the predicates known there, those of them that are yes, and what it sees
+pub record Visit : Type 0 where
+  pub known : ℕ
+  pub facts : ℕ
+  pub seen : Look
 
--- with n visits more before it
-abbrev pub later : ℕ → Found → Found
-later n (nothing c) = nothing (n + c)
-later n (breaking m c) = breaking m (n + c)
+abbrev pub visit : (ℕ → ℕ → Look) → ℕ → ℕ → Visit
+visit see known facts = record { known = known; facts = facts; seen = see known facts }
 
--- "and if that found nothing": the second walk behind the first
-abbrev pub orElse : Found → Found → Found
-orElse (nothing n) w = later n w
-orElse (breaking m n) w = breaking m n
+-- what is found at a visit that sees this, or else later: "the breaking request is these facts with every other predicate no"
+abbrev pub foundAt : Look → ℕ → Option ℕ → Option ℕ
+foundAt Nothing facts later = later
+foundAt Found facts later = some facts
+foundAt Open facts later = later
 
--- "Settled true: nothing breaks it here. Settled false: the breaking request is these facts with every other predicate no, and the walk ends."
--- "Each visit counts one."
-abbrev pub visit : Look → ℕ → Found → Found
-visit True facts below = nothing 1
-visit False facts below = breaking facts 1
-visit Open facts below = later 1 below
+-- what visits found
+unfoldable pub found : List Visit → Option ℕ
+found [] = none
+found (v ∷ vs) = foundAt (v .seen) (v .facts) (found vs)
+
+-- "and if that found nothing": the second visits behind the first
+abbrev pub ifNone : Option ℕ → List Visit → List Visit
+ifNone none second = second
+ifNone (some request) second = []
+
+abbrev pub orElse : List Visit → List Visit → List Visit
+orElse first second = first ++ ifNone (found first) second
+
+-- "Settled true: nothing breaks it here. Settled false: … the walk ends. Unsettled: …": what is visited below a visit, by what it sees
+abbrev pub below : Look → List Visit → List Visit
+below Nothing visits = []
+below Found visits = []
+below Open visits = visits
 
 -- "A visit looks at the question with predicates 0 to k-1 known. … Unsettled: visit with predicate k no, and if that found nothing, with predicate k yes."
--- `left` predicates are not known yet; where none is left, nothing is below.
-unfoldable pub walkFrom : (ℕ → ℕ → Look) → ℕ → ℕ → ℕ → Found
-walkFrom see zero k facts = visit (see k facts) facts (nothing 0)
-walkFrom see (suc left) k facts = visit (see k facts) facts (orElse (walkFrom see left (k + 1) facts) (walkFrom see left (k + 1) (facts + 2 ^ k)))
+-- Where no predicate is left to be tried, nothing is below.
+unfoldable pub visitsFrom : (ℕ → ℕ → Look) → List ℕ → ℕ → ℕ → List Visit
+visitsFrom see [] known facts = visit see known facts ∷ []
+visitsFrom see (p ∷ left) known facts =
+    let here = visit see known facts in
+    let no = visitsFrom see left (known + 2 ^ p) facts in
+    let yes = visitsFrom see left (known + 2 ^ p) (facts + 2 ^ p) in
+    here ∷ below (here .seen) (orElse no yes)
 
--- what a visit sees of question j with predicates 0 to k-1 known
+-- so many predicates, from k on
+unfoldable pub predicatesFrom : ℕ → ℕ → List ℕ
+predicatesFrom k zero = []
+predicatesFrom k (suc left) = k ∷ predicatesFrom (k + 1) left
+
+-- "Start with no fact known": the walk over n predicates
+abbrev pub walkBy : (ℕ → ℕ → Look) → ℕ → List Visit
+walkBy see n = visitsFrom see (predicatesFrom 0 n) 0 0
+
+-- what a visit sees of question j, and the walk that answers it
 abbrev pub sees : List Entry → List Entry → ℕ → ℕ → ℕ → Look
-sees rows questions j k facts = look (truthSet rows questions (2 ^ k - 1) facts j)
+sees rows questions j known facts = look (truthSet rows questions known facts j)
 
--- "Start with no fact known."
-abbrev pub walk : List Entry → List Entry → ℕ → ℕ → Found
-walk rows questions n j = walkFrom (sees rows questions j) n 0 0
+abbrev pub walk : List Entry → List Entry → ℕ → ℕ → List Visit
+walk rows questions n j = walkBy (sees rows questions j) n
 
--- "holds, with the count; fails, with the breaking request as a yes mask and the count; unfinished, with the budget as the count.
--- Unfinished is given exactly if the whole walk makes more visits than the budget."
-abbrev pub ended : Found → Reply
-ended (nothing n) = Holds n
-ended (breaking m n) = Fails m n
+-- "holds, with the count; fails, with the breaking request as a yes mask and the count; unfinished, with the budget as the count."
+-- "Each visit counts one." "Unfinished is given exactly if the whole walk makes more visits than the budget."
+abbrev pub ended : Option ℕ → ℕ → Reply
+ended none count = Holds count
+ended (some request) count = Fails request count
 
-unfoldable pub replyOf : ℕ → Found → Reply
-replyOf budget w = cond (leb (visits w) budget) (ended w) (Unfinished budget)
-
--- the count that a reply gives, and the reply with k visits before it, out of a budget that had them
-abbrev pub countOf : Reply → ℕ
-countOf (Holds n) = n
-countOf (Fails m n) = n
-countOf (Unfinished n) = n
-
-abbrev pub plusOf : Reply → ℕ → ℕ → Reply
-plusOf (Holds n) k budget = Holds (k + n)
-plusOf (Fails m n) k budget = Fails m (k + n)
-plusOf (Unfinished n) k budget = Unfinished budget
+unfoldable pub replyOf : ℕ → List Visit → Reply
+replyOf budget visits = cond (leb (length visits) budget) (ended (found visits) (length visits)) (Unfinished budget)

@@ -1,16 +1,20 @@
 // The walk that answers a question, with a budget of visits.
-pub mod questions;
-mod tables;
-
-use questions::Look;
 use table::Table;
 ghost use mathlib.Core.Path.{_≡_};
-ghost use Prim.Native.Nat.{_+_, _-_, _*_, _^_, _≤_, _<_};
-ghost use lib.ListN.{length};
-ghost use Rattle.table.specs.Steps.{predicateLimit, questionLimit};
-ghost use Rattle.runs.specs.Flat.{perEntry, entriesIn};
-ghost use Rattle.walk.specs.Questions.{top as topSpec};
-ghost use Rattle.walk.specs.Walk.{sees, walkFrom, walk, replyOf, countOf, plusOf};
+ghost use mathlib.Core.Option.{none};
+ghost use Prim.Native.Nat.{_+_, _-_, _^_, _≤_, _<_};
+ghost use Rattle.table.specs.Steps.{predicateLimit};
+ghost use Rattle.runs.specs.Flat.{entriesIn};
+ghost use Rattle.possible.specs.Sets.{truths as bothTruths, ofMask};
+ghost use Rattle.walk.specs.Walk.{look, foundAt, sees, ended, replyOf};
+ghost use Rattle.walk.specs.Inner.{replyIn, countOf, plusOf, walkFrom, goesOn, Lent};
+
+// What a visit sees: the question is settled true and nothing breaks it here, it is settled false and a breaking request is found, or neither yet.
+pub enum Look {
+    Nothing,
+    Found,
+    Open,
+}
 
 // Holds, with the count of visits; fails, with the breaking request and the count; unfinished, with the budget.
 pub enum Reply {
@@ -19,24 +23,57 @@ pub enum Reply {
     Unfinished(u32),
 }
 
+// What a visit sees of a set of truths: one member, or not one alone.
+fn look_of(t: u8) -> Look
+    ensures { λ r. ⌜ r ≡ look (ofMask bothTruths t) ⌝ }
+{
+    let m = t % 4;
+    match m {
+        1 => Look::Nothing,
+        2 => Look::Found,
+        _ => Look::Open,
+    }
+}
+
+// Whether visits are made below one: it is not settled, and a predicate is left. At k = n every question is settled (`settled-at-n`).
+fn goes_on(seen: Look, k: u32, n: u32) -> bool
+    ensures { λ r. ⌜ r ≡ goesOn seen k n ⌝ }
+{
+    match seen {
+        Look::Nothing => false,
+        Look::Found => false,
+        Look::Open => k < n,
+    }
+}
+
 // What a visit sees of a question with predicates 0 to k-1 known and these facts yes.
 fn visit(
     rows: &[u8],
     questions: &[u8],
     sets: &mut [u8],
     truths: &mut [u8],
-    top: usize,
     question: usize,
     k: u32,
     facts: u32,
 ) -> Look
-    requires { ⌜ (perEntry * top ≤ length (now rows)) × (perEntry * question + 2 < length (now questions)) × (top ≤ length (now sets)) × (question < length (now truths)) × (topSpec (entriesIn (now questions)) question ≤ top) × (k ≤ predicateLimit) ⌝ }
-    ensures { λ r. ⌜ r ≡ sees (entriesIn (now (rows .entry))) (entriesIn (now (questions .entry))) question k facts ⌝ }
+    requires { ⌜ Lent (now rows) (now questions) (now sets) (now truths) question × (k ≤ predicateLimit) ⌝ }
+    ensures { λ r. ⌜ r ≡ sees (entriesIn (now (rows .entry))) (entriesIn (now (questions .entry))) question (2 ^ k - 1) facts ⌝ }
 {
     let known = (1 << k) - 1;
-    possible::sets_below(rows, top, known, facts, sets);
-    questions::truths_below(questions, question + 1, sets, top, truths);
-    questions::look_of(truths[question])
+    possible::fill_sets(rows, known, facts, sets);
+    questions::fill_truths(questions, sets, truths);
+    look_of(truths[question])
+}
+
+// The reply of a visit below which none is made.
+fn settled(seen: Look, facts: u32) -> Reply
+    ensures { λ r. ⌜ r ≡ ended (foundAt seen facts none) 1 ⌝ }
+{
+    match seen {
+        Look::Nothing => Reply::Holds(1),
+        Look::Found => Reply::Fails(facts, 1),
+        Look::Open => Reply::Holds(1),
+    }
 }
 
 // The facts with predicate k yes.
@@ -47,14 +84,14 @@ fn with_yes(facts: u32, k: u32) -> u32
     facts + (1 << k)
 }
 
-// A reply with k visits before it, out of a budget that had them.
-fn plus(r: Reply, k: u32, budget: u32) -> Reply
-    requires { ⌜ (k ≤ budget) × (countOf r ≤ budget - k) ⌝ }
-    ensures { λ x. ⌜ x ≡ plusOf r k budget ⌝ }
+// A reply with so many visits made before it, out of a budget that had them.
+fn plus(r: Reply, made: u32, budget: u32) -> Reply
+    requires { ⌜ (made ≤ budget) × (countOf r ≤ budget - made) ⌝ }
+    ensures { λ x. ⌜ x ≡ plusOf r made budget ⌝ }
 {
     match r {
-        Reply::Holds(c) => Reply::Holds(k + c),
-        Reply::Fails(m, c) => Reply::Fails(m, k + c),
+        Reply::Holds(c) => Reply::Holds(made + c),
+        Reply::Fails(m, c) => Reply::Fails(m, made + c),
         Reply::Unfinished(_) => Reply::Unfinished(budget),
     }
 }
@@ -65,79 +102,74 @@ fn walk_from(
     questions: &[u8],
     sets: &mut [u8],
     truths: &mut [u8],
-    top: usize,
     question: usize,
     n: u32,
     k: u32,
     facts: u32,
     budget: u32,
 ) -> Reply
-    requires { ⌜ ((perEntry * top ≤ length (now rows)) × (perEntry * question + 2 < length (now questions)) × (top ≤ length (now sets)) × (question < length (now truths)) × (topSpec (entriesIn (now questions)) question ≤ top)) × (k ≤ n) × (n ≤ predicateLimit) × (facts < 2 ^ k) ⌝ }
-    ensures { λ r. ⌜ r ≡ replyOf budget (walkFrom (sees (entriesIn (now (rows .entry))) (entriesIn (now (questions .entry))) question) (n - k) k facts) ⌝ }
+    requires { ⌜ Lent (now rows) (now questions) (now sets) (now truths) question × (k ≤ n) × (n ≤ predicateLimit) × (facts < 2 ^ k) ⌝ }
+    ensures { λ r. ⌜ r ≡ replyOf budget (walkFrom (sees (entriesIn (now (rows .entry))) (entriesIn (now (questions .entry))) question) n k facts) ⌝ }
 {
     if budget == 0 {
         return Reply::Unfinished(0);
     }
-    let seen = visit(rows, questions, sets, truths, top, question, k, facts);
-    match seen {
-        Look::True => Reply::Holds(1),
-        Look::False => Reply::Fails(facts, 1),
-        Look::Open => {
-            // never met: at k = n every question is settled (`settled-at-n`)
-            if k == n {
-                return Reply::Holds(1);
-            }
-            let no = facts;
-            let yes = with_yes(facts, k);
-            let first = walk_from(
-                rows,
-                questions,
-                sets,
-                truths,
-                top,
-                question,
-                n,
-                k + 1,
-                no,
-                budget - 1,
-            );
-            let Reply::Holds(a) = first else {
-                return plus(first, 1, budget);
-            };
-            let second = walk_from(
-                rows,
-                questions,
-                sets,
-                truths,
-                top,
-                question,
-                n,
-                k + 1,
-                yes,
-                budget - 1 - a,
-            );
-            plus(second, 1 + a, budget)
-        }
+    let seen = visit(rows, questions, sets, truths, question, k, facts);
+    let open = goes_on(seen, k, n);
+    if !open {
+        return settled(seen, facts);
     }
+    let no = facts;
+    let yes = with_yes(facts, k);
+    let first = walk_from(
+        rows,
+        questions,
+        sets,
+        truths,
+        question,
+        n,
+        k + 1,
+        no,
+        budget - 1,
+    );
+    let Reply::Holds(a) = first else {
+        return plus(first, 1, budget);
+    };
+    let second = walk_from(
+        rows,
+        questions,
+        sets,
+        truths,
+        question,
+        n,
+        k + 1,
+        yes,
+        budget - 1 - a,
+    );
+    plus(second, 1 + a, budget)
 }
 
-// The verdict on a question of a table, within a budget of visits.
+// The verdict on a question of a table, within a budget of visits; nothing is claimed of a question that no table has room for.
 pub fn verdict(t: Table, question: usize, budget: u32) -> Reply
-    requires { ⌜ (question < questionLimit) × (t .predicates ≤ predicateLimit) ⌝ }
-    ensures { λ r. ⌜ r ≡ replyOf budget (walk (t .rows) (t .questions) (t .predicates) question) ⌝ }
+    ensures { λ r. ⌜ r ≡ replyIn budget (t .rows) (t .questions) (t .predicates) question ⌝ }
 {
-    let questions = runs::flat_questions(t, question + 1);
-    let top = questions::top_of(&questions, question);
-    let rows = runs::flat_rows(t, top);
+    if Table::QUESTIONS <= question {
+        return Reply::Unfinished(budget);
+    }
+    let end = question + 1;
+    let asked = runs::flat_questions(t, end);
+    let questions = &asked[..runs::PER_ENTRY * end];
+    let top = questions::top_of(questions, question as u8);
+    let run = runs::flat_rows(t, top);
+    let rows = &run[..runs::PER_ENTRY * top];
     let mut sets = [0u8; Table::ROWS];
     let mut truths = [0u8; Table::QUESTIONS];
-    let n = t.predicates as u32;
+    let n = runs::fewer(t.predicates, Table::PREDICATES) as u32;
     walk_from(
-        &rows,
-        &questions,
-        &mut sets,
-        &mut truths,
-        top,
+        rows,
+        questions,
+        &mut sets[..top],
+        &mut truths[..end],
         question,
         n,
         0,

@@ -24,12 +24,11 @@ loop-holds c = (omega arith, refl)
 
 loop-again : tie.Need-loop-again Inv-loop μ-loop
 loop-again c =
-    let at = c .before .before .before .before .before .before .before .before in
-    let v = rw (
-      c .before .before .before .before .before .as-row .ensures,
-      c .before .before .before .before .index .ensures .0,
-      c .before .before .before .index2 .ensures .0,
-    ) at (c .decide-by .ensures) in (
+    let second = c .before .before .before in
+    let first = second .before in
+    let kind = first .before in
+    let at = kind .before .before .before in
+    let v = rw (kind .as-row .ensures, first .index .ensures .0, second .index2 .ensures .0) at (c .decide-by .ensures) in (
       omega arith,
       turn (decides (at .before .args .request)) U (at .before .args .t1 .rows) rowLimit (at .loop .i) (at .loop .d) (c .decide-by .result)
           (omega arith) (at .loop .inv .1) v,

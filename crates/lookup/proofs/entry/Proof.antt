@@ -11,17 +11,18 @@ use borrow.Author.Needs.{needs}
 use Rattle.lookup.proofs.entry.Statement.{statement}
 use Rattle.lookup.proofs.entry.Tie as tie
 
--- at a row that was found: its part, and what is known of it
+-- at a row that was found: where the function begins, the row's part, and what is known of it
+abbrev start-at : tie.After-struct-known → tie.Start
+start-at c = c .before .before .before .before .before .before
+
 abbrev part-at : tie.After-struct-known → Part
 part-at c = c .before .before .found .given .0 .0
 
 place-at : (c : tie.After-struct-known) →
-    placeOf (reading (c .before .before .before .before .before .before .args .table .now))
-    (c .before .before .before .before .before .before .args .row) ≡ answered (part-at c)
+    placeOf (reading (start-at c .args .table .now)) (start-at c .args .row) ≡ answered (part-at c)
 place-at c = at-part _ (part-at c) (sym (c .before .before .before .before .find .ensures) ∙ c .before .before .found .given .1)
 
-lent-at : (c : tie.After-struct-known) →
-    Lent (c .before .before .before .before .before .before .args .table .now) (c .before .before .before .before .before .before .args .row) (part-at c)
+lent-at : (c : tie.After-struct-known) → Lent (start-at c .args .table .now) (start-at c .args .row) (part-at c)
 lent-at c = lent _ _ (part-at c) (place-at c)
 
 add-end : tie.Need-add-end

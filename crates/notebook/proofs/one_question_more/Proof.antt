@@ -5,7 +5,6 @@ use lib.ListN.{length}
 use borrow.Author.Needs.{needs}
 use Rattle.notebook.proofs.one_question_more.Statement.{statement}
 use Rattle.notebook.proofs.one_question_more.Tie as tie
-use Rattle.notebook.proofs.one_question_more.Reads as reads
 
 abbrev Inv-loop : tie.InvT-loop
 Inv-loop table₀ i₀ t3 table i = (i ≤ 65) × (length table ≡ 196)

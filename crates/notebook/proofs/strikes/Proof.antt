@@ -7,10 +7,10 @@ use Rattle.notebook.proofs.strikes.Statement.{statement}
 use Rattle.notebook.proofs.strikes.Tie as tie
 
 abbrev Inv-loop : tie.InvT-loop
-Inv-loop row out written i₀ t10 i = (i ≤ 7) × (length out ≡ 7)
+Inv-loop row out written i₀ i = (i ≤ 7) × (length out ≡ 7)
 
 abbrev μ-loop : tie.MeasureT-loop
-μ-loop row out written i₀ t10 i = 7 - i
+μ-loop row out written i₀ i = 7 - i
 
 pub strikes-spec : {M : Type 1} → statement M
 strikes-spec =
@@ -32,7 +32,6 @@ strikes-spec =
     (λ c. search needs)
     (λ c. search needs)
     (λ c κs. search needs)
-    (λ c. search needs)
     (λ c. search needs)
     (λ c. search needs)
     (λ c. search needs)

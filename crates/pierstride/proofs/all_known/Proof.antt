@@ -20,19 +20,25 @@ loop-holds : tie.Need-loop-holds Inv-loop μ-loop
 unfolding knownBelow
 loop-holds c = (omega arith, refl)
 
+-- a turn of the loop, from behind its second bit
+abbrev turn : tie.After-bit-of2 Inv-loop μ-loop → tie.At-loop Inv-loop μ-loop
+turn c = c .before .before .before
+
 returns : tie.Need-returns Inv-loop μ-loop
 returns c =
-    sym (known-never (c .before .before .before .before .before .args .known) (c .before .before .before .before .before .args .request)
-    (c .before .before .before .before .loop .i) predicateLimit (rw (c .before .before .bit-of .ensures, c .before .bit-of2 .ensures) at (c .if1 .taken))
-    (omega arith))
+    let at = turn (c .before) in
+    let a = at .before .args in
+    sym (known-never (a .known) (a .request) (at .loop .i) predicateLimit
+    (rw (c .before .before .bit-of .ensures, c .before .bit-of2 .ensures) at (c .if1 .taken)) (omega arith))
 
 loop-again : tie.Need-loop-again Inv-loop μ-loop
-loop-again c = (
-  omega arith,
-  known-more (c .before .before .before .before .before .args .known) (c .before .before .before .before .before .args .request)
-      (c .before .before .before .before .loop .i) (c .before .before .before .before .loop .inv .1)
-      (rw (c .before .before .bit-of .ensures, c .before .bit-of2 .ensures) at (c .if1 .left)),
-)
+loop-again c =
+    let at = turn (c .before) in
+    let a = at .before .args in (
+      omega arith,
+      known-more (a .known) (a .request) (at .loop .i) (at .loop .inv .1)
+          (rw (c .before .before .bit-of .ensures, c .before .bit-of2 .ensures) at (c .if1 .left)),
+    )
 
 returns-2 : tie.Need-returns-2 Inv-loop μ-loop
 returns-2 c = let q : c .before .loop .i ≡ predicateLimit = omega arith in sym (rw q at (c .before .loop .inv .1))

@@ -4,7 +4,7 @@ use Rattle.entries.specs.declared.refusals.Refusal.{Refusal}
 use Rattle.entries.specs.Said.{refusing}
 use Rattle.table.proofs.Opening.{Opened, opened, turned}
 use Rattle.pierstride.specs.Services.{verdictOf, saysVerdict}
-use Rattle.pierstride.proofs.Serving.{passed-on, verdict-refuses, verdict-fits, verdict-answers}
+use Rattle.pierstride.proofs.Serving.{passed-on, verdict-refuses, verdict-answers}
 use borrow.Author.Needs.{needs}
 use Rattle.pierstride.proofs.pier_verdict.Statement.{statement}
 use Rattle.pierstride.proofs.pier_verdict.Tie as tie
@@ -34,14 +34,6 @@ returns-2 c =
     c .no-verdict2 .ensures ∙ ap (λ (why : Refusal). verdictOf (refusing why)) (c .before .of .ensures)
     ∙ verdict-refuses (open-at told) (start .question) (start .budget) (why .result) (why .ensures) (c .before .before .if1 .taken)
 
-verdict-requires : tie.Need-verdict-requires
-verdict-requires c κs =
-    let asked = c .before in
-    let told = asked .before .before .before in
-    let start = start-at told .args in
-    let why = asked .asked-wrongly in
-    verdict-fits (open-at told) (start .question) (start .budget) (why .result) (why .ensures) (c .if1 .left)
-
 returns-3 : tie.Need-returns-3
 returns-3 c =
     let asked = c .before .before .before in
@@ -66,6 +58,6 @@ pier-verdict-spec =
     (λ c κs. search needs)
     (λ c κs. search needs)
     returns-2
-    verdict-requires
+    (λ c κs. search needs)
     (λ c κs. search needs)
     returns-3)

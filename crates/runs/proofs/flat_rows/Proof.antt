@@ -1,9 +1,8 @@
 -- That `flat_rows` (src/lib.rt) keeps its promise.
-use Rattle.runs.proofs.Runs.{flat-turn}
+use Rattle.runs.proofs.Runs.{Written, flat-turn}
 use Rattle.runs.specs.Flat.{perEntry, upTo, flat}
 use Rattle.kinds.specs.declared.Form.{Form}
 use Rattle.table.specs.Steps.{rowLimit}
-use Rattle.table.specs.Reading.{padded}
 use native.Mathlib.Omega.{arith}
 use Prim.Native.Nat.{_*_, _-_, _≤_}
 use mathlib.Core.Path.{_≡_, refl, ap}
@@ -12,10 +11,10 @@ use Rattle.runs.proofs.flat_rows.Statement.{statement}
 use Rattle.runs.proofs.flat_rows.Tie as tie
 
 abbrev Inv-loop : tie.InvT-loop
-Inv-loop end t run₀ i₀ run i = (i ≤ end) × (run ≡ padded 0 (perEntry * rowLimit) (flat (upTo (t .rows) i)))
+Inv-loop below t end run₀ i₀ run i = (i ≤ end) × Written (t .rows) i (perEntry * rowLimit) run
 
 abbrev μ-loop : tie.MeasureT-loop
-μ-loop end t run₀ i₀ run i = end - i
+μ-loop below t end run₀ i₀ run i = end - i
 
 loop-holds : tie.Need-loop-holds Inv-loop μ-loop
 unfolding upTo flat
@@ -26,12 +25,15 @@ loop-again c =
     let at = c .before .before .before in
     let byte = ap (λ (f : Form). f .byte) (c .form-of .ensures) in (
       omega arith,
-      flat-turn (at .before .args .t1 .rows) (perEntry * rowLimit) (at .loop .i) (c .form-of .result .byte) (at .loop .run) (omega arith)
-          (at .loop .inv .1) byte,
+      flat-turn (at .before .before .args .t1 .rows) (perEntry * rowLimit) (at .loop .i) (c .form-of .result .byte) (at .loop .run)
+          (omega (arith, at .before .fewer .ensures)) (at .loop .inv .1) byte,
     )
 
 returns : tie.Need-returns Inv-loop μ-loop
-returns c = let q : c .before .loop .i ≡ c .before .before .args .end = omega arith in rw q at (c .before .loop .inv .1)
+returns c =
+    let call = c .before .before .fewer in
+    let q : c .before .loop .i ≡ call .result = omega arith in
+    rw (q, call .ensures) at (c .before .loop .inv .1)
 
 pub flat-rows-spec : {M : Type 1} → statement M
 flat-rows-spec =
@@ -39,6 +41,7 @@ flat-rows-spec =
     (tie.spec
     Inv-loop
     μ-loop
+    (λ c κs. search needs)
     loop-holds
     (λ c. search needs)
     (λ c. search needs)

@@ -5,10 +5,16 @@ use Rattle.walk.proofs.plus.Statement.{statement}
 use Rattle.walk.proofs.plus.Tie as tie
 
 add-t8 : tie.Need-add-t8
-add-t8 c = let v = rw (c .before .r .given .1) at (c .before .before .before .pre .1) in record { fits = omega (arith, c .before .before .before .pre .0, v) }
+add-t8 c =
+    let pre = c .before .before .before .pre in
+    let few = rw (c .before .r .given .1) at (pre .1) in
+    record { fits = omega (arith, pre .0, few) }
 
 add-t9 : tie.Need-add-t9
-add-t9 c = let v = rw (c .before .r2 .given .1) at (c .before .before .before .pre .1) in record { fits = omega (arith, c .before .before .before .pre .0, v) }
+add-t9 c =
+    let pre = c .before .before .before .pre in
+    let few = rw (c .before .r2 .given .1) at (pre .1) in
+    record { fits = omega (arith, pre .0, few) }
 
 returns : tie.Need-returns
 returns c = rw (c .before .r .given .1)

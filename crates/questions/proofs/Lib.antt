@@ -1,0 +1,5 @@
+-- Laws of questions; below this file, a folder for each function that has a proof of its own.
+pub mod Tops
+pub mod TruthSets
+pub mod Renaming
+pub mod Unique
