@@ -52,8 +52,8 @@ independent rows m o = by-rows (λ r. Agree (reaches rows r) m o → decision ro
     row-agrees (asRow (e .kind)) (e .a) m o _ _ _ _ _ _ agree (at (e .a)) (at (e .b)))
 
 -- a row reaches only predicates below an n that covers them
-row-below : (k : RowKind) (a b n p : ℕ) (s t : ℕ → Bool) → usedBy (formOf (Row k) .names) a ≤ n → (s p ≡ true → p < n) → (t p ≡ true → p < n) →
-    reachBy k a s t p ≡ true → p < n
+row-below : (k : RowKind) (a b n p : ℕ) (s t : ℕ → Bool) → usedBy (formOf (Row k) .names) a ≤ n → (s p ≡ true → p < n) →
+    (t p ≡ true → p < n) → reachBy k a s t p ≡ true → p < n
 row-below (Always v) a b n p s t u f g e = absurd (let z : _≡_ {A = ℕ} 0 1 = cc in omega arith)
 row-below DenyIf a b n p s t u f g e = omega (arith, eqb-true p a e)
 row-below GrantIf a b n p s t u f g e = omega (arith, eqb-true p a e)
@@ -71,5 +71,6 @@ reach-below rows n covers p = by-rows (λ r. reaches rows r p ≡ true → p < n
     row-below (asRow (e .kind)) (e .a) (e .b) n p _ _ (omega (arith, row-uses e, covers r)) (at (e .a)) (at (e .b)))
 
 -- "Predicates from n up may be given and change nothing."
-pub beyond-n : (rows : List Entry) (n : ℕ) → Covers n rows → (m o r : ℕ) → ((p : ℕ) → p < n → bit m p ≡ bit o p) → decision rows m r ≡ decision rows o r
+pub beyond-n : (rows : List Entry) (n : ℕ) → Covers n rows → (m o r : ℕ) → ((p : ℕ) → p < n → bit m p ≡ bit o p) →
+    decision rows m r ≡ decision rows o r
 beyond-n rows n covers m o r h = independent rows m o r (λ p e. h p (reach-below rows n covers p r e))

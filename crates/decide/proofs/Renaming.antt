@@ -21,7 +21,8 @@ use Rattle.decide.proofs.RowByRow.{by-rows, before-there}
 -- a value that comes from those of the rows named, and from an entry's own numbers only where they name no row
 abbrev pub Comes : {A : Type 0} → (Entry → A → A → A) → Type 0
 Comes {A} f =
-    (new : ℕ → ℕ) (e : Entry) (x y u v : A) → (namesRow 0 e ≡ true → x ≡ u) → (namesRow 1 e ≡ true → y ≡ v) → f (renamed new e) x y ≡ f e u v
+    (new : ℕ → ℕ) (e : Entry) (x y u v : A) → (namesRow 0 e ≡ true → x ≡ u) → (namesRow 1 e ≡ true → y ≡ v) →
+    f (renamed new e) x y ≡ f e u v
 
 pub decisions-come : (m : ℕ) → Comes (decides m)
 unfolding decideBy
@@ -60,7 +61,8 @@ module _ {new : ℕ → ℕ} {Kept : ℕ → Type 0} {rows fresh : List Entry} w
   unfolding valueAt
   value-stands {A} f z comes i s ih =
       let e = getD rows i blank in
-      let same : (x : ℕ) (b : Bool) → b ≡ true → Named new Kept i x → getD (values f z fresh (new i)) (cond b (new x) x) z ≡ getD (values f z rows i) x z =
+      let same : (x : ℕ) (b : Bool) → b ≡ true → Named new Kept i x →
+      getD (values f z fresh (new i)) (cond b (new x) x) z ≡ getD (values f z rows i) x z =
       λ x b t n.
       ap (λ (b : Bool). getD (values f z fresh (new i)) (cond b (new x) x) z) t
       ∙ before-there f z fresh (new i) (new x) (n .still) ∙ ih x (n .lower) (n .kept) ∙ sym (before-there f z rows i x (n .lower)) in

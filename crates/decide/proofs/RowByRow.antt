@@ -1,7 +1,7 @@
 -- Laws of values row by row, over the values' type: what stands at a row's number, one turn of a loop that fills an array,
 -- induction over rows, and two kinds of values that go side by side.
 -- Assumes nothing.
-use mathlib.Core.Path.{_≡_, refl, sym, ap, ap₂, _∙_}
+use mathlib.Core.Path.{_≡_, refl, ap, ap₂, _∙_}
 use mathlib.Core.List.{List, [], _∷_, _++_, map, append-assoc}
 use Prim.Native.Nat.{ℕ, zero, suc, _+_, _-_, _≤_, _<_}
 use native.Mathlib.Omega.{arith}
@@ -12,7 +12,7 @@ use Rattle.entries.specs.declared.Entry.{Entry}
 use Rattle.entries.specs.Entries.{blank}
 use Rattle.table.specs.Reading.{padded}
 use Rattle.entries.proofs.Numbers.{by-order}
-use Rattle.table.proofs.Padding.{padded-at, padded-more}
+use Rattle.table.proofs.Padding.{padded-at, padded-next}
 use Rattle.decide.specs.Rows.{valueBy, values, valueAt}
 
 -- a fact of every row, from the same fact of the rows below it
@@ -68,8 +68,7 @@ module _ {A : Type 0} (f : Entry → A → A → A) (z : A) where
       let w : v ≡ valueBy f z (getD es i blank) l =
       e ∙ ap₂ (f (getD es i blank)) (ap (λ (d : List A). getD d (getD es i blank .a) z) q ∙ padded-at z n l (getD es i blank .a))
       (ap (λ (d : List A). getD d (getD es i blank .b) z) q ∙ padded-at z n l (getD es i blank .b)) in
-      rw (add-one i, q, w) (ap (λ (k : ℕ). set (padded z n l) k (valueBy f z (getD es i blank) l)) (sym m) ∙ padded-more z n l (valueBy f z (getD es i blank) l)
-      (rw m h))
+      rw (add-one i, q, w) (padded-next z n l (valueBy f z (getD es i blank) l) i m h)
 
 -- inside a list it does not matter what would stand past its end
 pub getD-any : {A : Type 0} (l : List A) (i : ℕ) (d e : A) → i < length l → getD l i d ≡ getD l i e

@@ -28,8 +28,8 @@ use Rattle.decide.specs.Meaning.{decideBy, decides, decision}
 use Rattle.decide.proofs.RowByRow.{before-there}
 
 -- what a row decides hangs on what it is told of the rows that it names, which are lower
-pub operands : (k : RowKind) (a b r request : ℕ) (x y u v : Decision) → named (record { kind = Row k; a = a; b = b }) (tally r 0) ≡ true → (a < r → x ≡ u) →
-    (b < r → y ≡ v) →
+pub operands : (k : RowKind) (a b r request : ℕ) (x y u v : Decision) → named (record { kind = Row k; a = a; b = b }) (tally r 0) ≡ true →
+    (a < r → x ≡ u) → (b < r → y ≡ v) →
     decideBy k a request x y ≡ decideBy k a request u v
 unfolding decideBy
 operands (Always w) a b r request x y u v h p q = refl

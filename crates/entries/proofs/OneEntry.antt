@@ -51,7 +51,8 @@ unfolding bytesOf
 put-none e [] h q = absurd (omega arith)
 put-none e (x ∷ out) h q = (rw q) ∙ onto-long e (x ∷ out) h
 
-pub put-one : (e : Entry) (out : List ℕ) → numbersOf e < length out → numbersOf e ≡ 1 → set (set out 0 (formOf (e .kind) .byte)) 1 (e .a) ≡ onto (bytesOf e) out
+pub put-one : (e : Entry) (out : List ℕ) → numbersOf e < length out → numbersOf e ≡ 1 →
+    set (set out 0 (formOf (e .kind) .byte)) 1 (e .a) ≡ onto (bytesOf e) out
 unfolding bytesOf
 put-one e [] h q = absurd (omega arith)
 put-one e (x ∷ []) h q = absurd (omega arith)

@@ -25,8 +25,8 @@ among-byte : (l : List Kind) (k : ℕ) (kind : Kind) → among l k ≡ Listed ki
 among-byte [] k kind e = absurd (let z : _≡_ {A = ℕ} 0 1 = cc in omega arith)
 among-byte (x ∷ l) k kind e = go (eqb k (formOf x .byte)) refl e (among-byte l k kind)
   where
-    go : (b : Bool) → eqb k (formOf x .byte) ≡ b → cond b (Listed x) (among l k) ≡ Listed kind → (among l k ≡ Listed kind → formOf kind .byte ≡ k) →
-        formOf kind .byte ≡ k
+    go : (b : Bool) → eqb k (formOf x .byte) ≡ b → cond b (Listed x) (among l k) ≡ Listed kind →
+        (among l k ≡ Listed kind → formOf kind .byte ≡ k) → formOf kind .byte ≡ k
     go true q h rest = let same : x ≡ kind = cc in ap (λ (kind : Kind). formOf kind .byte) (sym same) ∙ sym (eqb-true k (formOf x .byte) q)
     go false q h rest = rest h
 
@@ -44,8 +44,7 @@ among-gap lo hi [] k c p q = refl
 among-gap lo hi (x ∷ l) k c p q =
     let h = both-parts (not (leb lo (formOf x .byte) && ltb (formOf x .byte) hi)) (clear lo hi l) c in
     let away : k ≡ formOf x .byte → ⊥ =
-    λ e. let z : true ≡ false = sym (rw (le-leb lo (formOf x .byte) (omega arith), lt-ltb (formOf x .byte) hi (omega arith)) at (h .0)) in let y : _≡_ {A = ℕ} 0
-    1 = cc in omega arith in
+    λ e. never (sym (rw (le-leb lo (formOf x .byte) (omega arith), lt-ltb (formOf x .byte) hi (omega arith)) at (h .0))) in
     rw (ne-eqb k (formOf x .byte) away) (among-gap lo hi l k (h .1) p q)
 
 pub gap : (lo hi k : ℕ) → clear lo hi kinds ≡ true → lo ≤ k → k < hi → kindOf k ≡ Unlisted

@@ -26,7 +26,8 @@ use Rattle.table.proofs.Padding.{padded-at, padded-front}
 use Rattle.table.proofs.Writing.{written-append, written-more, of-accepted}
 
 -- one row more adds its bytes to the start of the next
-pub start-more : (es : List Entry) (i : ℕ) → i < length es → length (written (take (i + 1) es)) ≡ length (written (take i es)) + sizeOf (getD es i blank)
+pub start-more : (es : List Entry) (i : ℕ) → i < length es →
+    length (written (take (i + 1) es)) ≡ length (written (take i es)) + sizeOf (getD es i blank)
 start-more es i h =
     let e = getD es i blank in
     rw (add-one i, take-suc es i blank h, written-more (take i es) e, length-append (written (take i es)) (bytesOf e))

@@ -65,7 +65,8 @@ pub fn find(table: &[u8], row: u32) -> Place
 // The row's own bytes, as a part of the table that starts at the row's kind byte; an empty part where there is none.
 pub fn entry(table: &[u8], row: u32) -> &[u8]
     ensures part { λ r. ⌜ now r ≡ partAt (placeOf (reading (now (table .entry))) row) (now (table .entry)) ⌝ }
-    ensures place { λ r. ⌜ (r .ptr .0 ≡ table .entry .ptr .0) × (r .ptr .1 ≡ table .entry .ptr .1 + startAt (placeOf (reading (now (table .entry))) row)) ⌝ }
+    ensures place { λ r. ⌜ (r .ptr .0 ≡ table .entry .ptr .0) ×
+        (r .ptr .1 ≡ table .entry .ptr .1 + startAt (placeOf (reading (now (table .entry))) row)) ⌝ }
 {
     let found = find(table, row);
     match found {

@@ -29,7 +29,8 @@ pub conflation-formula : (p : Decision) → conflation p ≡ knowledgeJoin (impl
 conflation-formula p =
     one-decision (λ o p q r. conflation p) (λ o p q r. knowledgeJoin (implication (negation p) U) (negation (implication p U))) refl Truth p p p
 
--- p[f ↦ q] = p ∨ (¬(p ∨ -p) ∧ q), p[t ↦ q] = p ∧ (¬(p ∧ -p) ∨ q), p[⊥ ↦ q] = p ⊕ (-(p ⊕ ¬p) ⊗ q), p[⊤ ↦ q] = p ⊗ (-(p ⊗ ¬p) ⊕ q)
+-- p[f ↦ q] = p ∨ (¬(p ∨ -p) ∧ q), p[t ↦ q] = p ∧ (¬(p ∧ -p) ∨ q),
+-- p[⊥ ↦ q] = p ⊕ (-(p ⊕ ¬p) ⊗ q), p[⊤ ↦ q] = p ⊗ (-(p ⊗ ¬p) ⊕ q)
 abbrev figure : Decision → Decision → Decision → Decision
 figure D p q = truthJoin p (truthMeet (negation (truthJoin p (conflation p))) q)
 figure G p q = truthMeet p (truthJoin (negation (truthMeet p (conflation p))) q)

@@ -58,4 +58,5 @@ abbrev pub everyOneRow : List OneRow
 everyOneRow = Negation ∷ Conflation ∷ ClosedDefault ∷ OpenDefault ∷ []
 
 abbrev pub everyTwoRow : List TwoRow
-everyTwoRow = TruthMeet ∷ TruthJoin ∷ KnowledgeMeet ∷ KnowledgeJoin ∷ Implication ∷ Guard ∷ OverrideU ∷ OverrideD ∷ OverrideG ∷ OverrideC ∷ []
+everyTwoRow =
+    TruthMeet ∷ TruthJoin ∷ KnowledgeMeet ∷ KnowledgeJoin ∷ Implication ∷ Guard ∷ OverrideU ∷ OverrideD ∷ OverrideG ∷ OverrideC ∷ []

@@ -20,7 +20,8 @@ use Rattle.pierstride.specs.Services.{askedWrongly, decidedOf, remaining
 use Rattle.pierstride.specs.Services.{saysDecide, decideAnswer, saysPossible, possibleAnswer, saysVerdict, verdictAnswer}
 
 -- an answer speaks of an accepted table
-pub table-of : {A : Type 0} (s : List ℕ) (f : Contents → Said A) (v : A) → andThen (reading s) f ≡ answered v → (c : Contents) × (reading s ≡ answered c)
+pub table-of : {A : Type 0} (s : List ℕ) (f : Contents → Said A) (v : A) → andThen (reading s) f ≡ answered v →
+    (c : Contents) × (reading s ≡ answered c)
 table-of s f v = go (reading s) refl
   where
     go : (x : Said Contents) → reading s ≡ x → andThen x f ≡ answered v → (c : Contents) × (reading s ≡ answered c)
@@ -28,7 +29,8 @@ table-of s f v = go (reading s) refl
     go (refusing why) e q = absurd (let z : _≡_ {A = ℕ} 0 1 = cc in omega arith)
 
 -- nothing was wrong with what was asked
-asked-well : {A B : Type 0} (shows : Said A → B) (number : B → ℕ) → ((why : Refusal) → number (shows (refusing why)) ≡ why .number) → (n : ℕ) (v : A) →
+asked-well : {A B : Type 0} (shows : Said A → B) (number : B → ℕ) → ((why : Refusal) → number (shows (refusing why)) ≡ why .number) →
+    (n : ℕ) (v : A) →
     number (shows (unless n (answered v))) ≡ 0 → n ≡ 0
 asked-well shows number h zero v e = refl
 asked-well shows number h (suc n) v e = absurd (omega (arith, e, h (refusal (suc n) 0)))

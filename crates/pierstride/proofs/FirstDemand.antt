@@ -115,7 +115,8 @@ struck-due s false true short n = inr (refl, refl)
 struck-due s false false true n = inr (refl, refl)
 struck-due s false false false n = tt
 
-pub strike-tells : (s : List ℕ) (r : ℕ) (out : List ℕ) → Tells ofStriking s (saysStrike s r out) (strikeAnswer s r out .refusal) (strikeAnswer s r out .place)
+pub strike-tells : (s : List ℕ) (r : ℕ) (out : List ℕ) →
+    Tells ofStriking s (saysStrike s r out) (strikeAnswer s r out .refusal) (strikeAnswer s r out .place)
 unfolding struckAnswer
 strike-tells s r out =
     tells ofStriking s closedOf (λ a. a .refusal) (λ a. a .place) refl (λ v. (refl, refl)) (λ why. (refl, refl)) (saysStrike s r out)

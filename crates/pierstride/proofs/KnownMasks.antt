@@ -26,7 +26,8 @@ and-false true = refl
 and-false false = refl
 
 module _ (known request : ℕ) where
-  pub known-more : (i : ℕ) → knownBelow i known request ≡ true → (bit request i && not (bit known i)) ≡ false → knownBelow (i + 1) known request ≡ true
+  pub known-more : (i : ℕ) → knownBelow i known request ≡ true → (bit request i && not (bit known i)) ≡ false →
+      knownBelow (i + 1) known request ≡ true
   unfolding knownBelow
   known-more i h e = rw (add-one i, h) (known-yes (bit request i) (bit known i) e)
 

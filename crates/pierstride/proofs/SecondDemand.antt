@@ -109,7 +109,8 @@ module _ (s : List ℕ) (c : Contents) (is : reading s ≡ answered c) (q b : �
       (λ l v. absurd (enough (ap (λ (v : Verdict). v .reply) v)))
 
   pub fails-means : answer .reply ≡ failing →
-      Breaks c q (answer .request) × (answer .request < 2 ^ n) × ((more o : ℕ) → comesBefore (n + more) o (answer .request) ≡ true → Breaks c q o → ⊥)
+      Breaks c q (answer .request) × (answer .request < 2 ^ n)
+      × ((more o : ℕ) → comesBefore (n + more) o (answer .request) ≡ true → Breaks c q o → ⊥)
   fails-means e =
       by-reply b (walkOf c q) answer (replies s c is q b there)
       (λ w l v. unlike answer _ failing v e (λ z. omega arith))

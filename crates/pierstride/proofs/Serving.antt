@@ -93,13 +93,15 @@ module _ {s : List ℕ} {got : Reading} (o : Opened s got) where
     pub decide-refuses : (why ≡ 0 → ⊥) → decidedOf (refusing (refusal why 0)) ≡ decideAnswer s at request
     decide-refuses h = sym (ap decidedOf (decide-said ∙ unless-some why _ h))
 
-    pub decide-answers : why ≡ 0 → (v : Decision) → v ≡ decisionIn (got .table .rows) request at → decidedOf (answered v) ≡ decideAnswer s at request
+    pub decide-answers : why ≡ 0 → (v : Decision) → v ≡ decisionIn (got .table .rows) request at →
+        decidedOf (answered v) ≡ decideAnswer s at request
     decide-answers e v q =
         let same = same-value (decides request) U (got .table .rows) (o .contents .rows) at (λ i k. rows-at i) in
         let d : v ≡ decision (o .contents .rows) request at = q ∙ rw (lt-ltb at rowLimit (row-there at why bad w e)) same in
         sym (ap decidedOf (decide-said ∙ unless-none why _ e ∙ ap answered (sym d)))
 
-  module _ (at known request why : ℕ) (bad : Bool) (b : bad ≡ badMasks known request) (w : why ≡ askedWrongly (leb (got .table .tally .rows) at) bad) where
+  module _ (at known request why : ℕ) (bad : Bool) (b : bad ≡ badMasks known request)
+      (w : why ≡ askedWrongly (leb (got .table .tally .rows) at) bad) where
     possible-said : saysPossible s at known request ≡ unless why (answered (possible (o .contents .rows) known request at))
     unfolding saysPossible
     possible-said = rw (o .is, w, b, used-is)

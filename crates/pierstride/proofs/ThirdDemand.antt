@@ -47,7 +47,8 @@ fromReading q budget x =
     verdictOf (andThen x (λ c. unless (askedWrongly (leb (length (c .questions)) q) false) (answered (replyOf budget (walkOf c q)))))
 
 -- "if some budget brings a verdict, every larger budget brings the same verdict, the same first request and the same count of visits"
-pub verdict-never-unsaid : (s : List ℕ) (q b more : ℕ) → b ≤ more → (verdictAnswer s q b .reply ≡ unfinished → ⊥) → verdictAnswer s q more ≡ verdictAnswer s q b
+pub verdict-never-unsaid : (s : List ℕ) (q b more : ℕ) → b ≤ more → (verdictAnswer s q b .reply ≡ unfinished → ⊥) →
+    verdictAnswer s q more ≡ verdictAnswer s q b
 unfolding saysVerdict
 verdict-never-unsaid s q b more l h = on (reading s) h
   where

@@ -43,8 +43,8 @@ fact-has v p known request o h = go (bit known p) refl
     go true e = rw (h p e) (single-has decisions (cond (bit request p) v U))
     go false e = either-way v (bit o p) (cond (bit o p) v U) (single-has decisions (cond (bit o p) v U))
 
-row-has : (k : RowKind) (a known request o : ℕ) → Fills known request o → (x y : Decision) (s t : Set decisions) → s .has x ≡ true → t .has y ≡ true →
-    setBy k a known request s t .has (decideBy k a o x y) ≡ true
+row-has : (k : RowKind) (a known request o : ℕ) → Fills known request o → (x y : Decision) (s t : Set decisions) → s .has x ≡ true →
+    t .has y ≡ true → setBy k a known request s t .has (decideBy k a o x y) ≡ true
 unfolding setBy decideBy
 row-has (Always v) a known request o h x y s t p q = single-has decisions v
 row-has DenyIf a known request o h x y s t p q = fact-has D a known request o h
@@ -119,5 +119,6 @@ pub beyond-n : (rows : List Entry) (n : ℕ) → Covers n rows → (known reques
 beyond-n rows n covers known request more then r h =
     side-by-side (λ s t. s ≡ t) (setOf known request) (setOf more then) (single U) (single U) rows refl
     (λ i s t u v p q. ap₂ (setBy (asRow (getD rows i blank .kind)) (getD rows i blank .a) known request) p q
-    ∙ row-same (asRow (getD rows i blank .kind)) (getD rows i blank .a) n known request more then h (omega (arith, row-uses (getD rows i blank), covers i)) u v)
+    ∙ row-same (asRow (getD rows i blank .kind)) (getD rows i blank .a) n known request more then h
+    (omega (arith, row-uses (getD rows i blank), covers i)) u v)
     r

@@ -29,6 +29,6 @@ sets-come known request new e x y u v p q = go (e .kind) (e .a) (e .b) p q
     go (Row (Two op)) a b p q = ap₂ (imageTwo (two op)) (p refl) (q refl)
     go (Question k) a b p q = refl
 
-pub possible-kept : {new : ℕ → ℕ} {Kept : ℕ → Type 0} {rows fresh : List Entry} → Renames new Kept rows fresh → (known request i : ℕ) → Kept i →
-    possible fresh known request (new i) ≡ possible rows known request i
+pub possible-kept : {new : ℕ → ℕ} {Kept : ℕ → Type 0} {rows fresh : List Entry} → Renames new Kept rows fresh → (known request i : ℕ) →
+    Kept i → possible fresh known request (new i) ≡ possible rows known request i
 possible-kept r known request = value-kept r (setOf known request) (single U) (sets-come known request)

@@ -33,8 +33,8 @@ compares Both = false
 
 abbrev Answers : {A B : Type 0} → (QuestionKind → B → B → A → A → A) → Type 0
 Answers {A} {B} f =
-    (k : QuestionKind) (s t p q : B) (x y u v : A) → (compares k ≡ true → (s ≡ p) × (t ≡ q)) → (compares k ≡ false → (x ≡ u) × (y ≡ v)) →
-    f k s t x y ≡ f k p q u v
+    (k : QuestionKind) (s t p q : B) (x y u v : A) → (compares k ≡ true → (s ≡ p) × (t ≡ q)) →
+    (compares k ≡ false → (x ≡ u) × (y ≡ v)) → f k s t x y ≡ f k p q u v
 
 truth-answers : Answers truthBy
 truth-answers (Compare o) s t p q x y u v rows asked = rw (rows refl .0, rows refl .1)
@@ -62,7 +62,8 @@ rows-named e = ⊎-elim (λ q c. go (e .kind) (e .a) (e .b) q c) (λ q c. never 
     go (Question Not) a b q c = never (sym c)
     go (Question Both) a b q c = never (sym c)
 
-numbers-stay : (new : ℕ → ℕ) (e : Entry) → Asked e → compares (asQuestion (e .kind)) ≡ false → (renamed new e .a ≡ e .a) × (renamed new e .b ≡ e .b)
+numbers-stay : (new : ℕ → ℕ) (e : Entry) → Asked e → compares (asQuestion (e .kind)) ≡ false →
+    (renamed new e .a ≡ e .a) × (renamed new e .b ≡ e .b)
 numbers-stay new e = ⊎-elim (λ q c. go (e .kind) (e .a) (e .b) q c) (λ q c. rw q (refl, refl))
   where
     go : (k : Kind) (a b : ℕ) → isQuestion k ≡ true → compares (asQuestion k) ≡ false →
@@ -81,7 +82,8 @@ pub record Follows (new : ℕ → ℕ) (Kept : ℕ → Type 0) (questions fresh 
 
 -- every question has the value it had, if the rows have theirs
 module _ {new : ℕ → ℕ} {Kept : ℕ → Type 0} {questions fresh : List Entry} (w : Follows new Kept questions fresh) {A B : Type 0}
-    (f : QuestionKind → B → B → A → A → A) (z : A) (answers : Answers f) (g h : ℕ → B) (rows-kept : (x : ℕ) → Kept x → g (new x) ≡ h x) where
+    (f : QuestionKind → B → B → A → A → A) (z : A) (answers : Answers f) (g h : ℕ → B)
+    (rows-kept : (x : ℕ) → Kept x → g (new x) ≡ h x) where
   abbrev after : Entry → A → A → A
   after e x y = f (asQuestion (e .kind)) (g (e .a)) (g (e .b)) x y
 
@@ -92,7 +94,8 @@ module _ {new : ℕ → ℕ} {Kept : ℕ → Type 0} {questions fresh : List Ent
   unfolding valueAt
   question-kept = by-rows (λ j. valueAt after z fresh j ≡ valueAt before z questions j) (λ j ih.
       let e = getD questions j blank in
-      let row : (x : ℕ) (b : Bool) → b ≡ true → Kept x → g (cond b (new x) x) ≡ h x = λ x b t k. ap (λ (b : Bool). g (cond b (new x) x)) t ∙ rows-kept x k in
+      let row : (x : ℕ) (b : Bool) → b ≡ true → Kept x → g (cond b (new x) x) ≡ h x =
+      λ x b t k. ap (λ (b : Bool). g (cond b (new x) x)) t ∙ rows-kept x k in
       let question : (x y : ℕ) → y ≡ x → getD (values after z fresh j) y z ≡ getD (values before z questions j) x z =
       λ x y q. ap (λ (y : ℕ). getD (values after z fresh j) y z) q ∙ by-order x j
       (λ l. before-there after z fresh j x l ∙ ih x l ∙ sym (before-there before z questions j x l))
@@ -104,11 +107,11 @@ module _ {new : ℕ → ℕ} {Kept : ℕ → Type 0} {questions fresh : List Ent
       (λ c. let n = numbers-stay new e (w .asked j) c in (question (e .a) (renamed new e .a) (n .0), question (e .b) (renamed new e .b) (n .1))))
 
 -- the questions of a table whose rows got new numbers
-module _ {new : ℕ → ℕ} {Kept : ℕ → Type 0} {rows others questions asked : List Entry} (r : Renames new Kept rows others) (w : Follows new Kept questions asked)
-  where
-    pub truth-kept : (m j : ℕ) → truth others asked m j ≡ truth rows questions m j
-    truth-kept m = question-kept w truthBy true truth-answers (decision others m) (decision rows m) (decision-kept r m)
+module _ {new : ℕ → ℕ} {Kept : ℕ → Type 0} {rows others questions asked : List Entry}
+    (r : Renames new Kept rows others) (w : Follows new Kept questions asked) where
+  pub truth-kept : (m j : ℕ) → truth others asked m j ≡ truth rows questions m j
+  truth-kept m = question-kept w truthBy true truth-answers (decision others m) (decision rows m) (decision-kept r m)
 
-    pub truths-kept : (known request j : ℕ) → truthSet others asked known request j ≡ truthSet rows questions known request j
-    truths-kept known request =
-        question-kept w truthSetBy (single true) set-answers (possible others known request) (possible rows known request) (possible-kept r known request)
+  pub truths-kept : (known request j : ℕ) → truthSet others asked known request j ≡ truthSet rows questions known request j
+  truths-kept known request =
+      question-kept w truthSetBy (single true) set-answers (possible others known request) (possible rows known request) (possible-kept r known request)

@@ -24,12 +24,14 @@ use Rattle.questions.specs.Questions.{truthSetBy, asksSet}
 use Rattle.questions.specs.Inner.{topBy, topOf, top, topIn}
 
 -- a question looks at no more rows than a byte can number
-top-small : (k : QuestionKind) (a b x y : ℕ) → a < numberLimit → b < numberLimit → x ≤ numberLimit → y ≤ numberLimit → topBy k a b x y ≤ numberLimit
+top-small : (k : QuestionKind) (a b x y : ℕ) → a < numberLimit → b < numberLimit → x ≤ numberLimit → y ≤ numberLimit →
+    topBy k a b x y ≤ numberLimit
 top-small (Compare o) a b x y p q r s = omega arith
 top-small Not a b x y p q r s = r
 top-small Both a b x y p q r s = omega arith
 
-top-bound : (qs : List Entry) → ((i : ℕ) → (getD qs i blank .a < numberLimit) × (getD qs i blank .b < numberLimit)) → (j : ℕ) → top qs j ≤ numberLimit
+top-bound : (qs : List Entry) → ((i : ℕ) → (getD qs i blank .a < numberLimit) × (getD qs i blank .b < numberLimit)) → (j : ℕ) →
+    top qs j ≤ numberLimit
 top-bound qs h =
     side-by-side (λ x y. x ≤ numberLimit) topOf topOf 0 0 qs (omega arith)
     (λ i x y u v p q. top-small (asQuestion (getD qs i blank .kind)) (getD qs i blank .a) (getD qs i blank .b) x y (h i .0) (h i .1) p q)
@@ -50,8 +52,8 @@ top-there run j tops q =
     ap (λ (l : List ℕ). getD l j 0) q ∙ padded-at 0 numberLimit (values topOf 0 (entriesIn run) (roomFor run numberLimit)) j
 
 -- and that it looks at no others
-same-seen : (k : QuestionKind) (a b rows m n : ℕ) (f g : ℕ → Set decisions) (x y u v : Set truths) → ((r : ℕ) → r < rows → f r ≡ g r) → topBy k a b m n ≤ rows →
-    (m ≤ rows → x ≡ u) → (n ≤ rows → y ≡ v) → truthSetBy k (f a) (f b) x y ≡ truthSetBy k (g a) (g b) u v
+same-seen : (k : QuestionKind) (a b rows m n : ℕ) (f g : ℕ → Set decisions) (x y u v : Set truths) → ((r : ℕ) → r < rows → f r ≡ g r) →
+    topBy k a b m n ≤ rows → (m ≤ rows → x ≡ u) → (n ≤ rows → y ≡ v) → truthSetBy k (f a) (f b) x y ≡ truthSetBy k (g a) (g b) u v
 unfolding truthSetBy
 same-seen (Compare o) a b rows m n f g x y u v h t p q = ap₂ (imageTwo (atOrBelow o)) (h a (omega arith)) (h b (omega arith))
 same-seen Not a b rows m n f g x y u v h t p q = rw (p t)

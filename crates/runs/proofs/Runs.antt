@@ -1,6 +1,6 @@
 -- Laws of entries as a run of numbers: one entry more, and that a run holds the entries that it was made of.
 -- Assumes nothing.
-use mathlib.Core.Path.{_≡_, refl, sym, ap, ap₂, _∙_}
+use mathlib.Core.Path.{_≡_, refl, ap, ap₂, _∙_}
 use mathlib.Core.List.{List, [], _∷_, _++_}
 use Prim.Native.Nat.{ℕ, zero, suc, _+_, _*_, _-_, _≤_, _<_}
 use native.Mathlib.Omega.{arith}
@@ -14,7 +14,7 @@ use Rattle.table.specs.Reading.{padded}
 use Rattle.runs.specs.Flat.{perEntry, upTo, flat, kindIn, entriesIn, roomFor}
 use Rattle.kinds.proofs.KindTable.{kind-of-byte}
 use Rattle.entries.proofs.Numbers.{by-order}
-use Rattle.table.proofs.Padding.{padded-length, padded-more}
+use Rattle.table.proofs.Padding.{padded-length, padded-next}
 
 upTo-length : (es : List Entry) (n : ℕ) → length (upTo es n) ≡ n
 unfolding upTo
@@ -35,15 +35,13 @@ flat-more (x ∷ es) e = ap (λ (l : List ℕ). formOf (x .kind) .byte ∷ x .a 
 abbrev pub Written : List Entry → ℕ → ℕ → List ℕ → Type 0
 Written es n size run = run ≡ padded 0 size (flat (upTo es n))
 
--- one number more in the array, and its place
-number-more : (size : ℕ) (l : List ℕ) (x at : ℕ) → length l ≡ at → at < size → set (padded 0 size l) at x ≡ padded 0 size (l ++ (x ∷ []))
-number-more size l x at m h = ap (λ (i : ℕ). set (padded 0 size l) i x) (sym m) ∙ padded-more 0 size l x (rw m h)
-
+-- the place of one number more
 longer : (l : List ℕ) (x at : ℕ) → length l ≡ at → length (l ++ (x ∷ [])) ≡ at + 1
 longer l x at m = length-append l (x ∷ []) ∙ omega (arith, m)
 
 -- one turn of a loop that writes entries
-pub flat-turn : (es : List Entry) (size i k : ℕ) (run : List ℕ) → perEntry * i + 2 < size → Written es i size run → k ≡ formOf (getD es i blank .kind) .byte →
+pub flat-turn : (es : List Entry) (size i k : ℕ) (run : List ℕ) → perEntry * i + 2 < size → Written es i size run →
+    k ≡ formOf (getD es i blank .kind) .byte →
     Written es (i + 1) size (set (set (set run (perEntry * i) k) (perEntry * i + 1) (getD es i blank .a)) (perEntry * i + 2) (getD es i blank .b))
 unfolding upTo
 flat-turn es size i k run h q r =
@@ -57,9 +55,9 @@ flat-turn es size i k run h q r =
     let m₁ : length one ≡ at + 1 = longer l byte at m in
     let m₂ : length two ≡ at + 2 = longer one (e .a) (at + 1) m₁ ∙ omega arith in
     rw (add-one i, flat-more (upTo es i) e, q, r)
-    (ap (λ (x : List ℕ). set (set x (at + 1) (e .a)) (at + 2) (e .b)) (number-more size l byte at m (omega arith))
-    ∙ ap (λ (x : List ℕ). set x (at + 2) (e .b)) (number-more size one (e .a) (at + 1) m₁ (omega arith))
-    ∙ number-more size two (e .b) (at + 2) m₂ h)
+    (ap (λ (x : List ℕ). set (set x (at + 1) (e .a)) (at + 2) (e .b)) (padded-next 0 size l byte at m (omega arith))
+    ∙ ap (λ (x : List ℕ). set x (at + 2) (e .b)) (padded-next 0 size one (e .a) (at + 1) m₁ (omega arith))
+    ∙ padded-next 0 size two (e .b) (at + 2) m₂ h)
 
 -- a run holds the entries that it was made of, and behind them blank ones
 kind-back : (e : Entry) → kindIn (formOf (e .kind) .byte) ≡ e .kind
@@ -98,7 +96,8 @@ upTo-at es (suc n) i h =
 abbrev pub entryFrom : List ℕ → ℕ → ℕ → ℕ → Entry
 entryFrom l x y z = record { kind = kindIn (getD l x 0); a = getD l y 0; b = getD l z 0 }
 
-pub held-at : (l : List ℕ) (i : ℕ) → perEntry * i + 2 < length l → getD (entriesIn l) i blank ≡ entryFrom l (perEntry * i) (perEntry * i + 1) (perEntry * i + 2)
+pub held-at : (l : List ℕ) (i : ℕ) → perEntry * i + 2 < length l →
+    getD (entriesIn l) i blank ≡ entryFrom l (perEntry * i) (perEntry * i + 1) (perEntry * i + 2)
 unfolding entriesIn
 held-at [] i h = absurd (omega arith)
 held-at (k ∷ []) i h = absurd (omega arith)
@@ -135,7 +134,8 @@ unfolding entriesIn
 front-at run zero i h = absurd (omega arith)
 front-at run (suc n) i h = let q : perEntry * suc n ≡ suc (suc (suc (perEntry * n))) = omega arith in rw q (go run i h (λ rest i h. front-at rest n i h))
   where
-    go : (run : List ℕ) (i : ℕ) → i < suc n → ((rest : List ℕ) (i : ℕ) → i < n → getD (entriesIn (front n rest)) i blank ≡ getD (entriesIn rest) i blank) →
+    go : (run : List ℕ) (i : ℕ) → i < suc n →
+        ((rest : List ℕ) (i : ℕ) → i < n → getD (entriesIn (front n rest)) i blank ≡ getD (entriesIn rest) i blank) →
         getD (entriesIn (take (suc (suc (suc (perEntry * n)))) run)) i blank ≡ getD (entriesIn run) i blank
     go [] i h on = refl
     go (k ∷ []) i h on = refl

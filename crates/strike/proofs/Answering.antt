@@ -27,8 +27,8 @@ use Rattle.strike.proofs.Filling.{table-fits, contents-back, held, stru
 abbrev pub Answers : List ℕ → ℕ → List ℕ → Said ℕ → List ℕ → Type 0
 Answers s r out a u = (shownStruck a ≡ shownStruck (struckAnswer (reading s) r (length out))) × (u ≡ struckOutput (reading s) r out)
 
-answers : (s : List ℕ) (r : ℕ) (out : List ℕ) (c : Contents) (a : Said ℕ) → reading s ≡ answered c → struckAnswer (answered c) r (length out) ≡ a →
-    Answers s r out a (outputBy a (struckBytes r c) out)
+answers : (s : List ℕ) (r : ℕ) (out : List ℕ) (c : Contents) (a : Said ℕ) → reading s ≡ answered c →
+    struckAnswer (answered c) r (length out) ≡ a → Answers s r out a (outputBy a (struckBytes r c) out)
 answers s r out c a q h = (
   ap shownStruck (sym (ap (λ (x : Said Contents). struckAnswer x r (length out)) q ∙ h)),
   sym (ap (λ (x : Said Contents). struckOutput x r out) q ∙ output-of c r out a h),
@@ -93,8 +93,8 @@ module _ {s : List ℕ} {got : Reading} (o : Opened s got) where
           answers s r out (o .contents) (refusing (refusal outputTooShort 0)) (o .is) (rw (there, used false n, short))
 
       pub written-answers : inUse r (contentsIn (got .table)) ≡ false → length (struckBytes r (contentsIn (got .table))) ≤ length out →
-          (a : ℕ) (u : List ℕ) → (a ≡ length (struckBytes r (contentsIn (got .table)))) × (u ≡ struckBytes r (contentsIn (got .table)) ++ drop a out) →
-          Answers s r out (answered a) u
+          (a : ℕ) (u : List ℕ) → (a ≡ length (struckBytes r (contentsIn (got .table))))
+          × (u ≡ struckBytes r (contentsIn (got .table)) ++ drop a out) → Answers s r out (answered a) u
       unfolding struckAnswer
       written-answers n l a u q =
           let long : tooShort (length out) r (o .contents) ≡ false = le-ltb (length out) (length (struckBytes r (o .contents))) (rw bytes at l) in

@@ -70,7 +70,8 @@ module _ {t : Table} (f : Fits t) where
       ∙ getD-take (t .tally .questions) (t .questions) (i - t .tally .rows) blank (omega arith)
 
   -- as the code takes it, by either way
-  pub held-at : {A B : Type 0} (i : ℕ) (e : Entry) → i < t .tally .rows + t .tally .questions → (A → (i < t .tally .rows) × (e ≡ getD (t .rows) i blank)) →
+  pub held-at : {A B : Type 0} (i : ℕ) (e : Entry) → i < t .tally .rows + t .tally .questions →
+      (A → (i < t .tally .rows) × (e ≡ getD (t .rows) i blank)) →
       (B → (t .tally .rows ≤ i) × (e ≡ getD (t .questions) (i - t .tally .rows) blank)) → A ⊎ B → e ≡ getD (held t) i blank
   held-at i e l row question =
       ⊎-elim (λ w. row w .1 ∙ sym (held-row i (row w .0))) (λ w. question w .1 ∙ sym (held-question i (question w .0) l))
@@ -122,7 +123,9 @@ module _ {es : List Entry} {before : List ℕ} {j at : ℕ} {out : List ℕ} (f 
       omega (arith, a, f .place, f .fits)
 
   pub filled-length : length out ≡ length before
-  filled-length = ap length (f .bytes) ∙ length-append (written (take j es)) (drop at before) ∙ omega (arith, f .place, length-drop at before, filled-within)
+  filled-length =
+      ap length (f .bytes) ∙ length-append (written (take j es)) (drop at before)
+      ∙ omega (arith, f .place, length-drop at before, filled-within)
 
 -- one entry more, written into the part of the output from its current end
 module _ {es : List Entry} {before : List ℕ} {j at : ℕ} {out : List ℕ} (f : Filled es before j at out) (here : j < length es) (e : Entry)
@@ -150,7 +153,8 @@ module _ {es : List Entry} {before : List ℕ} {j at : ℕ} {out : List ℕ} (f 
       let post : drop k (drop at out) ≡ [] = ap₂ drop q d ∙ drop-length (drop at before) in
       let room : numbersOf e < length (drop at before) = omega (arith, length-drop at before, size e, filled-room) in
       let y : ys ≡ bytesOf e ++ drop (at + sizeOf e) before =
-      ye ∙ ap (onto (bytesOf e)) mid ∙ sym (onto-long e (drop at before) room) ∙ ap (λ (l : List ℕ). bytesOf e ++ l) (drop-drop (sizeOf e) at before) in
+      ye ∙ ap (onto (bytesOf e)) mid ∙ sym (onto-long e (drop at before) room)
+      ∙ ap (λ (l : List ℕ). bytesOf e ++ l) (drop-drop (sizeOf e) at before) in
       rw ne (record {
         fits = f .fits;
         place = place-more;

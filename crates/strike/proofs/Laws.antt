@@ -42,7 +42,8 @@ pub struck-entries : (r : ℕ) (c : Contents) → r < length (c .rows) → entri
 struck-entries r c h = sym (ap (map (lowered r)) (without-append r (c .rows) (c .questions) h) ∙ map-append (lowered r) (without r (c .rows)) (c .questions))
 
 -- no row and no question of a table names r
-pub unnamed-row : (r : ℕ) (c : Contents) → namedBy r (entries c) ≡ false → (i : ℕ) → i < length (c .rows) → names r (getD (c .rows) i blank) ≡ false
+pub unnamed-row : (r : ℕ) (c : Contents) → namedBy r (entries c) ≡ false → (i : ℕ) → i < length (c .rows) →
+    names r (getD (c .rows) i blank) ≡ false
 unnamed-row r c n i l = ap (names r) (sym (List·getD-append (c .rows) (c .questions) blank i l)) ∙ named-none r (entries c) n i
 
 pub unnamed-question : (r : ℕ) (c : Contents) → namedBy r (entries c) ≡ false → (j : ℕ) → names r (getD (c .questions) j blank) ≡ false

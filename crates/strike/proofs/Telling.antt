@@ -57,7 +57,8 @@ done-of (answered c) r room n q =
 done-of (refusing why) r room n q = absurd (let z : _≡_ {A = ℕ} 0 1 = cc in omega arith)
 
 -- "a refusal changes no lent byte"
-pub refused-keeps : (x : Said Contents) (r : ℕ) (out : List ℕ) (why : Refusal) → struckAnswer x r (length out) ≡ refusing why → struckOutput x r out ≡ out
+pub refused-keeps : (x : Said Contents) (r : ℕ) (out : List ℕ) (why : Refusal) → struckAnswer x r (length out) ≡ refusing why →
+    struckOutput x r out ≡ out
 unfolding struckOutput
 refused-keeps (answered c) r out why q = output-of c r out (refusing why) q
 refused-keeps (refusing other) r out why q = refl

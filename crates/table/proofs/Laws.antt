@@ -121,7 +121,8 @@ number-kept m i rest more w = go (ltb i m) refl
         List·getD-append (take m rest) more 0 i l ∙ getD-take m rest i 0 (ltb-true i m e)
     go false e = refl
 
-body-kept : (kind : Kind) (rest more : List ℕ) → formOf kind .numbers ≤ length rest → bodyOf kind (take (formOf kind .numbers) rest ++ more) ≡ bodyOf kind rest
+body-kept : (kind : Kind) (rest more : List ℕ) → formOf kind .numbers ≤ length rest →
+    bodyOf kind (take (formOf kind .numbers) rest ++ more) ≡ bodyOf kind rest
 body-kept kind rest more w =
     let m = formOf kind .numbers in
     let l : m ≤ length (take m rest ++ more) = rw (length-append (take m rest) more, length-take-le m rest w) (omega arith) in
@@ -149,8 +150,8 @@ judged-kept kind rest more before why h q =
     short)
     (λ w. rw (body-kept kind rest more w) q)
 
-pub step-kept : (k : ℕ) (rest more : List ℕ) (before : Tally) (why : Refusal) → (why .number ≡ cutShort → ⊥) → stepOf k rest before ≡ refusing why →
-    stepOf k (take (ownBytes (kindOf k)) rest ++ more) before ≡ refusing why
+pub step-kept : (k : ℕ) (rest more : List ℕ) (before : Tally) (why : Refusal) → (why .number ≡ cutShort → ⊥) →
+    stepOf k rest before ≡ refusing why → stepOf k (take (ownBytes (kindOf k)) rest ++ more) before ≡ refusing why
 unfolding stepOf decoded
 step-kept k rest more before why h q = go (kindOf k) q
   where
@@ -211,7 +212,8 @@ module _ (s : List ℕ) (n p : ℕ) (q : reading s ≡ refusing (refusal n p)) w
   refused-at = (stop .before, ap reading at-front ∙ whole-accepted (stop .before) (stop .whole), rw (kind-here, rest-here) bad-here)
 
   -- and, but for 2, whatever follows the refused entry's own bytes does not matter
-  pub refused-anyway : (n ≡ cutShort → ⊥) → (more : List ℕ) → reading (take (p + suc (ownBytes (kindOf (getD s p 0)))) s ++ more) ≡ refusing (refusal n p)
+  pub refused-anyway : (n ≡ cutShort → ⊥) → (more : List ℕ) →
+      reading (take (p + suc (ownBytes (kindOf (getD s p 0)))) s ++ more) ≡ refusing (refusal n p)
   unfolding readOn after front
   refused-anyway h more =
       let m = ownBytes (kindOf (stop .kind)) in

@@ -1,6 +1,6 @@
 -- A list in an array that is longer: what stands where, and one element more.
 -- Assumes nothing.
-use mathlib.Core.Path.{_≡_, refl, sym, _∙_}
+use mathlib.Core.Path.{_≡_, refl, sym, ap, _∙_}
 use mathlib.Core.List.{List, [], _∷_, _++_, append-assoc}
 use Prim.Native.Nat.{ℕ, zero, suc, _-_, _≤_, _<_}
 use native.Mathlib.Omega.{arith}
@@ -29,4 +29,9 @@ module _ {A : Type 0} (z : A) where
   pub padded-more : (n : ℕ) (l : List A) (x : A) → length l < n → set (padded z n l) (length l) x ≡ padded z n (l ++ (x ∷ []))
   padded-more n l x h =
       let m : n - length l ≡ suc (n - length (l ++ (x ∷ []))) = omega (arith, length-append l (x ∷ [])) in
-      rw m (set-at l z (replicate (n - length (l ++ (x ∷ []))) z) x (length l) refl ∙ sym (append-assoc l (x ∷ []) (replicate (n - length (l ++ (x ∷ []))) z)))
+      rw m (set-at l z (replicate (n - length (l ++ (x ∷ []))) z) x (length l) refl
+      ∙ sym (append-assoc l (x ∷ []) (replicate (n - length (l ++ (x ∷ []))) z)))
+
+  -- the same at a number that is the list's length
+  pub padded-next : (n : ℕ) (l : List A) (x : A) (at : ℕ) → length l ≡ at → at < n → set (padded z n l) at x ≡ padded z n (l ++ (x ∷ []))
+  padded-next n l x at m h = ap (λ (i : ℕ). set (padded z n l) i x) (sym m) ∙ padded-more n l x (rw m h)

@@ -49,7 +49,8 @@ room-for (Question k) before h = simp (lt-ltb _ _ h)
 
 -- the refusal where there is no room for a row, or for a question, by each case
 pub row-room-by : (k : RowKind) (before : Tally) (r : ℕ) → (0 < before .questions → r ≡ rowAfterQuestion) →
-    (before .questions ≤ 0 → before .rows < rowLimit → r ≡ 0) → (before .questions ≤ 0 → rowLimit ≤ before .rows → r ≡ tooManyRows) → r ≡ noRoom (Row k) before
+    (before .questions ≤ 0 → before .rows < rowLimit → r ≡ 0) →
+    (before .questions ≤ 0 → rowLimit ≤ before .rows → r ≡ tooManyRows) → r ≡ noRoom (Row k) before
 unfolding noRoom
 row-room-by k before r after none full =
     by-order 0 (before .questions)
@@ -98,8 +99,8 @@ pub record Given (why : Refusal) : Type 0 where
 pub given : (n : ℕ) → isAmong ofReading n ≡ true → Given (refusal n 0)
 given n h = record { number = h; place = refl }
 
-pub unless-given : (n : ℕ) (x : Said Entry) (why : Refusal) → ((n ≡ 0 → ⊥) → isAmong ofReading n ≡ true) → (x ≡ refusing why → Given why) →
-    unless n x ≡ refusing why → Given why
+pub unless-given : (n : ℕ) (x : Said Entry) (why : Refusal) → ((n ≡ 0 → ⊥) → isAmong ofReading n ≡ true) →
+    (x ≡ refusing why → Given why) → unless n x ≡ refusing why → Given why
 unless-given zero x why h rest q = rest q
 unless-given (suc n) x why h rest q =
     let same : refusal (suc n) 0 ≡ why = cc in rw same at (given (suc n) (h (λ z. omega arith)))

@@ -54,8 +54,8 @@ module _ (new : ℕ → ℕ) where
 
   -- an entry that keeps the rules still does, if each row that it names is named under a number that is below the new limit
   pub renamed-sound : (part : Kind → Bool) (before after : Tally) → before .questions ≡ after .questions → (e : Entry) →
-      (namesRow 0 e ≡ true → e .a < before .rows → new (e .a) < after .rows) → (namesRow 1 e ≡ true → e .b < before .rows → new (e .b) < after .rows) →
-      Sound part before e → Sound part after (renamed new e)
+      (namesRow 0 e ≡ true → e .a < before .rows → new (e .a) < after .rows) →
+      (namesRow 1 e ≡ true → e .b < before .rows → new (e .b) < after .rows) → Sound part before e → Sound part after (renamed new e)
   renamed-sound part before after q e f g h =
       let n = numbersOf e in
       let at = namedAt n (limit (namesOf e) before) in
@@ -70,7 +70,8 @@ module _ (new : ℕ → ℕ) where
       }
 
 -- a row that an entry names is one that it may name
-named-below : (names : Names) (n i x : ℕ) (before : Tally) → (rowNumbers names && ltb i n) ≡ true → namedAt n (limit names before) i x ≡ true → x < before .rows
+named-below : (names : Names) (n i x : ℕ) (before : Tally) → (rowNumbers names && ltb i n) ≡ true →
+    namedAt n (limit names before) i x ≡ true → x < before .rows
 named-below Nothing n i x before e h = absurd (let z : _≡_ {A = ℕ} 0 1 = cc in omega arith)
 named-below Predicates n i x before e h = absurd (let z : _≡_ {A = ℕ} 0 1 = cc in omega arith)
 named-below Rows n i x before e h = ltb-true _ _ (rw e at h)

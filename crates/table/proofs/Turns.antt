@@ -26,7 +26,8 @@ use Rattle.table.proofs.Permission.{room-of}
 use Rattle.table.proofs.Decoding.{step-took}
 
 -- how many entries more are looked for does not matter, once there are as many as bytes
-after-same : (x : Said Entry) (c : Contents) (at : ℕ) (f g : ℕ → Contents → Said Contents) → ((e : Entry) (c : Contents) → f (sizeOf e) c ≡ g (sizeOf e) c) →
+after-same : (x : Said Entry) (c : Contents) (at : ℕ) (f g : ℕ → Contents → Said Contents) →
+    ((e : Entry) (c : Contents) → f (sizeOf e) c ≡ g (sizeOf e) c) →
     after x c at f ≡ after x c at g
 unfolding after
 after-same (answered e) c at f g h = h e (withEntry c e)
@@ -110,8 +111,10 @@ module _ (s : List ℕ) (t : Table) (at : ℕ) (h : At s t at) (l : at < length 
   question-room e k q p = room-of (Question k) (t .tally) (rw p at (room-here e q))
 
   -- the struct with it in its place, and with it counted
-  pub row-more : (e : Entry) (k : RowKind) (m : Table) (n : ℕ) (u : Tally) → here ≡ answered e → e .kind ≡ Row k → n ≡ max (t .predicates) (uses e) →
-      m ≡ record { rows = set (t .rows) (t .tally .rows) e; questions = t .questions; tally = t .tally; predicates = n } → u ≡ oneMore (e .kind) (t .tally) →
+  pub row-more : (e : Entry) (k : RowKind) (m : Table) (n : ℕ) (u : Tally) → here ≡ answered e → e .kind ≡ Row k →
+      n ≡ max (t .predicates) (uses e) →
+      m ≡ record { rows = set (t .rows) (t .tally .rows) e; questions = t .questions; tally = t .tally; predicates = n } →
+      u ≡ oneMore (e .kind) (t .tally) →
       _≡_ {A = Table} (record { rows = m .rows; questions = m .questions; tally = u; predicates = m .predicates }) (tableOf (withEntry (h .contents) e))
   unfolding tableOf
   row-more e k m n u q p r w v =

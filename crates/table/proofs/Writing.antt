@@ -46,7 +46,8 @@ each-more P i [] x h p = (let q : i + 0 ≡ i = omega arith in rw q at p, tt)
 each-more P i (y ∷ l) x h p = (h .0, each-more P (suc i) l x (h .1) (let q : suc i + length l ≡ i + suc (length l) = omega arith in rw q p))
 
 -- the bytes of an entry that was read are those that it was read from
-front-of : (n a b : ℕ) (body : List ℕ) → n < 3 → n ≤ length body → a ≡ numberAt n 0 body → b ≡ numberAt n 1 body → take n (a ∷ b ∷ []) ≡ take n body
+front-of : (n a b : ℕ) (body : List ℕ) → n < 3 → n ≤ length body → a ≡ numberAt n 0 body → b ≡ numberAt n 1 body →
+    take n (a ∷ b ∷ []) ≡ take n body
 front-of zero a b body h w p q = refl
 front-of (suc zero) a b [] h w p q = absurd (omega arith)
 front-of (suc zero) a b (x ∷ body) h w p q = ap (λ (a : ℕ). a ∷ []) p
@@ -74,7 +75,8 @@ module _ (k : ℕ) (body : List ℕ) (e : Entry) (t : Decodes k body e) where
 
 -- the step that an entry's own bytes bring
 number-front : (n a b : ℕ) (s : List ℕ) → n < 3 →
-    (numberAt n 0 (take n (a ∷ b ∷ []) ++ s) ≡ numberAt n 0 (a ∷ b ∷ [])) × (numberAt n 1 (take n (a ∷ b ∷ []) ++ s) ≡ numberAt n 1 (a ∷ b ∷ []))
+    (numberAt n 0 (take n (a ∷ b ∷ []) ++ s) ≡ numberAt n 0 (a ∷ b ∷ []))
+    × (numberAt n 1 (take n (a ∷ b ∷ []) ++ s) ≡ numberAt n 1 (a ∷ b ∷ []))
 number-front zero a b s h = (refl, refl)
 number-front (suc zero) a b s h = (refl, refl)
 number-front (suc (suc zero)) a b s h = (refl, refl)
@@ -215,7 +217,8 @@ moreQuestions c es = record { rows = c .rows; questions = c .questions ++ es }
 abbrev Runs : (Contents → List Entry → Contents) → Contents → List Entry → Type 0
 Runs more c [] = more c [] ≡ c
 Runs more c (e ∷ es) =
-    (withEntry c e ≡ more c (e ∷ [])) × Allowed (tallyOf c) e × Tidy e × (more (more c (e ∷ [])) es ≡ more c (e ∷ es)) × Runs more (more c (e ∷ [])) es
+    (withEntry c e ≡ more c (e ∷ [])) × Allowed (tallyOf c) e × Tidy e × (more (more c (e ∷ [])) es ≡ more c (e ∷ es))
+    × Runs more (more c (e ∷ [])) es
 
 -- reading an entry's own bytes
 own-read : (c : Contents) (e : Entry) (s : List ℕ) (f at : ℕ) → Allowed (tallyOf c) e → Tidy e → length (bytesOf e ++ s) ≤ f →
@@ -227,8 +230,8 @@ own-read c e s (suc f) at h t l =
     rw (own-step e s (tallyOf c) h t, drop-at body s (length body) refl)
     (enough f (length s) (withEntry c e) (at + suc (length body)) s (omega (arith, length-append body s)) (omega arith))
 
-run : (more : Contents → List Entry → Contents) (es : List Entry) (c : Contents) (s : List ℕ) (f at : ℕ) → Runs more c es → length (written es ++ s) ≤ f →
-    readOn f c at (written es ++ s) ≡ readOn (length s) (more c es) (at + length (written es)) s
+run : (more : Contents → List Entry → Contents) (es : List Entry) (c : Contents) (s : List ℕ) (f at : ℕ) → Runs more c es →
+    length (written es ++ s) ≤ f → readOn f c at (written es ++ s) ≡ readOn (length s) (more c es) (at + length (written es)) s
 unfolding written
 run more [] c s f at h l =
     let z : at + 0 ≡ at = omega arith in

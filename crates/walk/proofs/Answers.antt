@@ -213,7 +213,8 @@ module _ (see : ℕ → ℕ → Look) (hit : ℕ → Bool) (all : ℕ)
 
   -- one that goes on, with predicate p no and then yes
   module _ (p : ℕ) (ps : List ℕ) (known facts : ℕ) (u : bit known p ≡ false) (unsaid : bit facts p ≡ false) where
-    says-both : (f g : Option ℕ) → Says ps (known + 2 ^ p) facts f → Says ps (known + 2 ^ p) (facts + 2 ^ p) g → Says (p ∷ ps) known facts (firstOf f g)
+    says-both : (f g : Option ℕ) → Says ps (known + 2 ^ p) facts f → Says ps (known + 2 ^ p) (facts + 2 ^ p) g →
+        Says (p ∷ ps) known facts (firstOf f g)
     says-both (some m) g x y = record {
       hits = x .hits;
       fills = less-no known facts p u unsaid m (x .fills);

@@ -42,7 +42,8 @@ predicates-more k (suc left) more =
     rw (p, q) (ap (λ (ps : List ℕ). k ∷ ps) (predicates-more (k + 1) left more))
 
 -- so the walk is the same for every n that covers the predicates used
-pub more-predicates : (rows questions : List Entry) (n : ℕ) → Covers n rows → (m : ℕ) → n ≤ m → (j : ℕ) → walk rows questions n j ≡ walk rows questions m j
+pub more-predicates : (rows questions : List Entry) (n : ℕ) → Covers n rows → (m : ℕ) → n ≤ m → (j : ℕ) →
+    walk rows questions n j ≡ walk rows questions m j
 more-predicates rows questions n covers m l j =
     let see = sees rows questions j in
     let sum : n + (m - n) ≡ m = omega arith in
@@ -52,12 +53,12 @@ more-predicates rows questions n covers m l j =
     ∙ ap (λ (ps : List ℕ). visitsFrom see ps 0 0) (predicates-more 0 n (m - n) ∙ ap (predicatesFrom 0) sum)
 
 -- the questions of a table whose rows got new numbers
-module _ {new : ℕ → ℕ} {Kept : ℕ → Type 0} {rows others questions asked : List Entry} (r : Renames new Kept rows others) (w : Follows new Kept questions asked)
-  where
-    sees-kept : (j : ℕ) → sees others asked j ≡ sees rows questions j
-    sees-kept j = fun-ext (λ known. fun-ext (λ facts. ap look (truths-kept r w known facts j)))
+module _ {new : ℕ → ℕ} {Kept : ℕ → Type 0} {rows others questions asked : List Entry}
+    (r : Renames new Kept rows others) (w : Follows new Kept questions asked) where
+  sees-kept : (j : ℕ) → sees others asked j ≡ sees rows questions j
+  sees-kept j = fun-ext (λ known. fun-ext (λ facts. ap look (truths-kept r w known facts j)))
 
-    -- though n may be smaller now
-    pub walk-kept : (n : ℕ) → Covers n others → (m : ℕ) → n ≤ m → (j : ℕ) → walk others asked n j ≡ walk rows questions m j
-    walk-kept n covers m l j =
-        more-predicates others asked n covers m l j ∙ ap (λ (see : ℕ → ℕ → Look). walkBy see m) (sees-kept j)
+  -- though n may be smaller now
+  pub walk-kept : (n : ℕ) → Covers n others → (m : ℕ) → n ≤ m → (j : ℕ) → walk others asked n j ≡ walk rows questions m j
+  walk-kept n covers m l j =
+      more-predicates others asked n covers m l j ∙ ap (λ (see : ℕ → ℕ → Look). walkBy see m) (sees-kept j)

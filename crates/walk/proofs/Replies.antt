@@ -28,8 +28,8 @@ unfolding replyOf
 reply-beyond b vs h = simp (lt-leb _ _ h)
 
 -- what holds of a reply in either case
-either-way : (b : ℕ) (vs : List Visit) (P : Reply → Type 0) → (length vs ≤ b → P (ended (found vs) (length vs))) → (b < length vs → P (Unfinished b)) →
-    P (replyOf b vs)
+either-way : (b : ℕ) (vs : List Visit) (P : Reply → Type 0) → (length vs ≤ b → P (ended (found vs) (length vs))) →
+    (b < length vs → P (Unfinished b)) → P (replyOf b vs)
 either-way b vs P f g = by-order b (length vs) (λ h. rw (reply-beyond b vs h) (g h)) (λ h. rw (reply-within b vs h) (f h))
 
 ended-count : (f : Option ℕ) (n : ℕ) → countOf (ended f n) ≡ n
@@ -108,7 +108,8 @@ module _ (see : ℕ → ℕ → Look) (n k facts b : ℕ) where
       sym (reply-beyond b (walkFrom see n k facts) (omega (arith, makes-visit (predicatesFrom k (n - k)) (2 ^ k - 1))) ∙ ap Unfinished e)
 
   -- a visit below which none is made
-  pub ends-here : (l : Look) → see (2 ^ k - 1) facts ≡ l → goesOn l k n ≡ false → 0 < b → ended (foundAt l facts none) 1 ≡ replyOf b (walkFrom see n k facts)
+  pub ends-here : (l : Look) → see (2 ^ k - 1) facts ≡ l → goesOn l k n ≡ false → 0 < b →
+      ended (foundAt l facts none) 1 ≡ replyOf b (walkFrom see n k facts)
   unfolding visitsFrom predicatesFrom
   ends-here Nothing e t h =
       sym (ap (replyOf b) (one-visit (predicatesFrom k (n - k)) (2 ^ k - 1) Nothing e (λ vs. refl)) ∙ alone Nothing (Holds 1) e h refl)
@@ -143,7 +144,8 @@ module _ (see : ℕ → ℕ → Look) (n k facts b : ℕ) (l : k < n) (p : 0 < b
   unfolding found
   none-yet vs e = rw (o, e)
 
-  ends : (first second : List Visit) (f : Option ℕ) → found first ≡ f → (r : Reply) → r ≡ replyOf (b - 1) first → ((a : ℕ) → r ≡ Holds a → ⊥) →
+  ends : (first second : List Visit) (f : Option ℕ) → found first ≡ f → (r : Reply) → r ≡ replyOf (b - 1) first →
+      ((a : ℕ) → r ≡ Holds a → ⊥) →
       plusOf r 1 b ≡ replyOf b (root ∷ orElse first second)
   unfolding found
   ends first second (some m) q r e h = rw (e, q, append-nil first) (reply-behind (root ∷ []) first b (none-yet [] refl) p)
@@ -152,7 +154,8 @@ module _ (see : ℕ → ℕ → Look) (n k facts b : ℕ) (l : k < n) (p : 0 < b
       (λ k. rw (e, reply-beyond (b - 1) first k, q, reply-beyond b (root ∷ (first ++ second)) (omega (arith, length-append first second))))
       (λ k. absurd (h (length first) (e ∙ reply-within (b - 1) first k ∙ ap (λ (f : Option ℕ). ended f (length first)) q)))
 
-  pub first-ends : (r : Reply) → r ≡ replyOf (b - 1) walkNo → ((a : ℕ) → r ≡ Holds a → ⊥) → plusOf r 1 b ≡ replyOf b (walkFrom see n k facts)
+  pub first-ends : (r : Reply) → r ≡ replyOf (b - 1) walkNo → ((a : ℕ) → r ≡ Holds a → ⊥) →
+      plusOf r 1 b ≡ replyOf b (walkFrom see n k facts)
   first-ends r e h = rw unsettled (ends walkNo walkYes (found walkNo) refl r e h)
 
   pub second-ends : (r y : Reply) (a : ℕ) → r ≡ replyOf (b - 1) walkNo → r ≡ Holds a → a ≤ b - 1 → y ≡ replyOf (b - 1 - a) walkYes →

@@ -43,4 +43,5 @@ goesOn Open k n = ltb k n
 -- what a visit is lent: runs of rows and questions with a place for the set of each, question j and all rows that it looks at among them
 abbrev pub Lent : List ℕ → List ℕ → List ℕ → List ℕ → ℕ → Type 0
 Lent rows questions sets truths j =
-    (perEntry * length sets ≤ length rows) × (perEntry * length truths ≤ length questions) × (j < length truths) × (top (entriesIn questions) j ≤ length sets)
+    (perEntry * length sets ≤ length rows) × (perEntry * length truths ≤ length questions) × (j < length truths)
+    × (top (entriesIn questions) j ≤ length sets)

@@ -11,7 +11,8 @@ returns : tie.Need-returns
 unfolding bit
 returns c =
     let h : c .before .args .mask < 2 ^ 32 = search needs in
-    let none : c .before .args .mask / 2 ^ c .before .args .predicate ≡ 0 = div-eq-of-lt (lt-of-lt-of-le h (pow-le-pow-right (search needs) (c .if1 .taken))) in
+    let none : c .before .args .mask / 2 ^ c .before .args .predicate ≡ 0 =
+    div-eq-of-lt (lt-of-lt-of-le h (pow-le-pow-right (search needs) (c .if1 .taken))) in
     rw none
 
 returns-2 : tie.Need-returns-2

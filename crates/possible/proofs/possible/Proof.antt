@@ -16,7 +16,8 @@ returns : tie.Need-returns
 returns c = simp (le-ltb _ _ (c .before .if1 .taken)) (c .only .ensures)
 
 -- the run of the rows up to the one asked for
-run-is : (c : tie.After-flat-rows) → Written (c .before .before .args .t .rows) (c .before .before .args .row + 1) (perEntry * rowLimit) (c .flat-rows .result)
+run-is : (c : tie.After-flat-rows) →
+    Written (c .before .before .args .t .rows) (c .before .before .args .row + 1) (perEntry * rowLimit) (c .flat-rows .result)
 run-is c =
     let end = c .before .before .args .row + 1 in
     let q : min end rowLimit ≡ end = omega (arith, c .before .if1 .left) in

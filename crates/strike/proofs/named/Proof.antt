@@ -27,7 +27,8 @@ returns c =
     let start = c .before .before .before .before .before in
     let i = c .before .before .before .before .loop .i in
     let l : i < length (held (start .args .t1)) = omega (arith, held-length (start .pre)) in
-    let e = held-at (start .pre) i (c .before .before .if1 .e) (omega arith) (λ w. (w .0 .taken, w .2)) (λ w. (w .0 .left, w .2)) (c .before .before .if1 .came)
+    let e = held-at (start .pre) i (c .before .before .if1 .e) (omega arith) (λ w. (w .0 .taken, w .2)) (λ w. (w .0 .left, w .2))
+    (c .before .before .if1 .came)
     in
     let n = sym (c .before .names-of .ensures ∙ ap (names (start .args .r)) e) in
     sym (named-some (start .args .r) (held (start .args .t1)) i l (n ∙ c .if2 .taken))
@@ -37,7 +38,8 @@ loop-again c =
     let start = c .before .before .before .before .before in
     let i = c .before .before .before .before .loop .i in
     let l : i < length (held (start .args .t1)) = omega (arith, held-length (start .pre)) in
-    let e = held-at (start .pre) i (c .before .before .if1 .e) (omega arith) (λ w. (w .0 .taken, w .2)) (λ w. (w .0 .left, w .2)) (c .before .before .if1 .came)
+    let e = held-at (start .pre) i (c .before .before .if1 .e) (omega arith) (λ w. (w .0 .taken, w .2)) (λ w. (w .0 .left, w .2))
+    (c .before .before .if1 .came)
     in
     let n = sym (c .before .names-of .ensures ∙ ap (names (start .args .r)) e) in
     (omega arith, named-more (start .args .r) (held (start .args .t1)) i l (c .before .before .before .before .loop .inv .1) (n ∙ c .if2 .left))

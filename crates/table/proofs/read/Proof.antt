@@ -132,7 +132,8 @@ returns : tie.Need-returns Inv-loop μ-loop
 returns c =
     let at = c .before in
     let head = refused-head at in
-    c .refused .ensures ∙ ap shown (sym (bad (refused-bytes at) (head .loop .t) (head .loop .at) (head .loop .inv) (in-refused at) (why at) (refused-here at)))
+    c .refused .ensures
+    ∙ ap shown (sym (bad (refused-bytes at) (head .loop .t) (head .loop .at) (head .loop .inv) (in-refused at) (why at) (refused-here at)))
 
 returns-2 : tie.Need-returns-2 Inv-loop μ-loop
 unfolding shown

@@ -8,7 +8,9 @@ returns : tie.Need-returns
 unfolding misnaming
 returns c =
     let told = c .before .before .before in
-    rw (← told .before .form-of .ensures, ← told .limit-of .ensures, ← c .before .before .named-at .ensures, ← c .before .named-at2 .ensures, c .if1 .taken)
+    let first = c .before .before in
+    let second = c .before in
+    rw (← told .before .form-of .ensures, ← told .limit-of .ensures, ← first .named-at .ensures, ← second .named-at2 .ensures, c .if1 .taken)
 
 returns-2 : tie.Need-returns-2
 unfolding misnaming
