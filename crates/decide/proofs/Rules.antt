@@ -18,7 +18,8 @@ use Rattle.kinds.specs.declared.Kind.the-variants.{Row}
 use Rattle.entries.specs.Said.{answered}
 use Rattle.kinds.specs.Kinds.{asRow}
 use Rattle.entries.specs.Entries.{blank}
-use Rattle.table.specs.Steps.{tally, named}
+use Rattle.table.specs.Steps.{tally}
+use Rattle.table.specs.Whole.{named}
 use Rattle.table.specs.Contents.{Contents}
 use Rattle.table.specs.Reading.{reading}
 use Rattle.kinds.proofs.KindTable.{is-row}

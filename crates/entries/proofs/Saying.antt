@@ -1,11 +1,13 @@
 -- Laws of what is said: a refusal's number that may stop it.
 -- Assumes nothing.
 use mathlib.Core.Path.{_≡_, refl}
+use mathlib.Core.Logic.{_⊎_, inl, inr}
 use Prim.Native.Nat.{ℕ, zero, suc, _-_}
 use native.Mathlib.Omega.{arith}
+use Rattle.entries.specs.declared.refusals.Refusal.{Refusal}
 use Rattle.entries.specs.Said.{Said, answered, refusing, refusal, unless}
 
--- a refusal's number that may stop what is said: where it is 0, where it is not, and what an answer tells of it
+-- a refusal's number that may stop what is said: where it is 0, where it is not, and what an answer or a refusal tells of it
 pub unless-none : {A : Type 0} (n : ℕ) (x : Said A) → n ≡ 0 → unless n x ≡ x
 unless-none zero x e = refl
 unless-none (suc n) x e = absurd (omega arith)
@@ -17,3 +19,8 @@ unless-some (suc n) x h = refl
 pub unless-answered : {A : Type 0} (n : ℕ) (x : Said A) (v : A) → unless n x ≡ answered v → (n ≡ 0) × (x ≡ answered v)
 unless-answered zero x v q = (refl, q)
 unless-answered (suc n) x v q = absurd (let z : _≡_ {A = ℕ} 0 1 = cc in omega arith)
+
+pub unless-refusing : {A : Type 0} (n : ℕ) (x : Said A) (why : Refusal) → unless n x ≡ refusing why →
+    ((n ≡ 0 → ⊥) × (refusal n 0 ≡ why)) ⊎ (x ≡ refusing why)
+unless-refusing zero x why q = inr q
+unless-refusing (suc n) x why q = inl (λ z. omega arith, cc)

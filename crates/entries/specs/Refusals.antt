@@ -52,9 +52,13 @@ outputTooShort = 11
 abbrev pub ifMissing : Bool → ℕ
 ifMissing missing = cond missing notThere 0
 
--- those of reading, in the order in which they are looked for at an entry
-abbrev pub ofReading : List ℕ
-ofReading = unlisted ∷ rowAfterQuestion ∷ tooManyRows ∷ tooManyQuestions ∷ cutShort ∷ predicateTooHigh ∷ notToBeNamed ∷ []
+-- those of reading, in the order in which they are looked for at an entry: first these, whose place is the kind byte's, then these, whose place is a
+-- number's (02, L1)
+abbrev pub atKindByte : List ℕ
+atKindByte = unlisted ∷ rowAfterQuestion ∷ tooManyRows ∷ tooManyQuestions ∷ cutShort ∷ []
+
+abbrev pub atNumber : List ℕ
+atNumber = predicateTooHigh ∷ notToBeNamed ∷ []
 
 -- whether a number stands in a list
 abbrev pub isAmong : List ℕ → ℕ → Bool

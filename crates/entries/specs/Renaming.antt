@@ -14,7 +14,7 @@ rowNumbers Predicates = false
 rowNumbers Rows = true
 rowNumbers Questions = false
 
--- whether the number at a place of an entry is there and names a row
+-- whether number i of an entry is there and names a row
 abbrev pub namesRow : ℕ → Entry → Bool
 namesRow i e = rowNumbers (namesOf e) && ltb i (numbersOf e)
 

@@ -56,7 +56,7 @@ pub fn uses_of(e: Entry) -> usize
     }
 }
 
-// Whether the number at place i of an entry is there and names a row.
+// Whether number i of an entry is there and names a row.
 pub fn names_row(e: Entry, i: usize) -> bool
     ensures { λ r. ⌜ r ≡ namesRow i e ⌝ }
 {

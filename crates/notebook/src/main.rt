@@ -1,5 +1,6 @@
 // Runs every case of the old desk's notebook (01) that is not marked P, through the services, and prints each with what came back;
-// then takes rows out of tables, each as a part of the table, or with the companion's refusal.
+// then tables with a number that is not below its limit (02, L1); then takes rows out of tables, each as a part of the table, or
+// with the companion's refusal.
 use libc::STDOUT_FILENO;
 
 // Table A; question 2 asks if row 2 is free of conflict.
@@ -198,6 +199,13 @@ fn strike_cases() {
     asks(b"00 02 20 01 40 01 02, question 0", &s, 0, 0);
 }
 
+// Two numbers too high, only the second, and one that is there in a body that is cut short.
+fn numbers_too_high() {
+    reads(b"00 30 05 05", b"\x00\x30\x05\x05");
+    reads(b"00 30 00 05", b"\x00\x30\x00\x05");
+    reads(b"33 05", b"\x33\x05");
+}
+
 fn rows_taken(a: &[u8]) {
     takes(b"A", a, 0);
     takes(b"A", a, 2);
@@ -205,6 +213,7 @@ fn rows_taken(a: &[u8]) {
     takes(b"A", a, 5);
     takes(b"A", a, 6);
     takes(b"00 40 00 00 00", b"\x00\x40\x00\x00\x00", 0);
+    takes(b"00 30 00 05", b"\x00\x30\x00\x05", 0);
 }
 
 fn main() {
@@ -217,6 +226,7 @@ fn main() {
     reads(b"257 bytes of 00", &zeros);
     one_question_more();
     strike_cases();
+    numbers_too_high();
     rows_taken(&a);
     takes(b"empty table", &zeros[..0], 0);
 }

@@ -1,22 +1,26 @@
 -- The letter's first demand, of the services' answers: every byte string and every number gets an answer or one of 01's numbered refusals, with its number
--- and place, and a refusal keeps the lent output's bytes.
+-- and place, and a refusal keeps the lent output's bytes. And of 02, L1: the place of 3 and 4 is that of a wrong number, and a right one there helps.
 -- Assumes nothing.
 use mathlib.Core.Path.{_≡_, refl, sym, _∙_}
 use mathlib.Core.Bool.{Bool, true, false}
 use mathlib.Core.List.{List}
-use mathlib.Core.Logic.{inl, inr, ⊎-elim}
-use Prim.Native.Nat.{ℕ}
+use mathlib.Core.Logic.{_⊎_, inl, inr, ⊎-elim}
+use Prim.Native.Nat.{ℕ, _<_}
 use native.Mathlib.Omega.{arith}
-use lib.ListN.{length}
+use lib.ListN.{length, set}
 use lib.Dec.{leb}
 use Rattle.belnap.proofs.Finite.{never}
 use Rattle.entries.specs.declared.refusals.Refusal.{Refusal}
-use Rattle.entries.specs.Refusals.{notThere, badMask, ifMissing, isAmong}
+use Rattle.entries.specs.Refusals.{notThere, badMask, ifMissing, atNumber, isAmong}
 use Rattle.entries.specs.Said.{Said, answered, refusing, andThen, unless}
-use Rattle.table.specs.Contents.{Contents}
+use Rattle.kinds.specs.Kinds.{formOf}
+use Rattle.table.specs.Steps.{limit}
+use Rattle.table.specs.Contents.{Contents, tallyOf}
 use Rattle.table.specs.Reading.{reading}
+use Rattle.table.specs.Places.{Misnames, Speaks}
 use Rattle.lookup.specs.Lookup.{placeOf}
-use Rattle.table.proofs.Laws.{refused-within}
+use Rattle.table.proofs.Speaking.{refused-at, at-number, not-zero}
+use Rattle.table.proofs.Mending.{mended}
 use Rattle.walk.specs.declared.Reply.{Reply}
 use Rattle.walk.specs.declared.Reply.the-variants.{Holds, Fails, Unfinished}
 use Rattle.strike.specs.Strike.{missing, inUse, tooShort, strikeRefusal, struckAnswer}
@@ -33,8 +37,7 @@ DueOf own s (answered v) = Unit {0}
 DueOf own s (refusing why) = Due own s (why .number) (why .place)
 
 never-zero : (own s : List ℕ) (n p : ℕ) → isAmong own 0 ≡ false → Due own s n p → n ≡ 0 → ⊥
-never-zero own s n p o d e =
-    ⊎-elim (λ h. never (sym (rw e at (h .0)))) (λ h. never (sym (rw e at (h .0)) ∙ o)) d
+never-zero own s n p o d e = ⊎-elim (λ w. not-zero s n p w e) (λ h. never (sym (rw e at (h .0)) ∙ o)) d
 
 -- a struct that shows what a call says in its two first fields tells it
 tells : {A B : Type 0} (own s : List ℕ) (shows : Said A → B) (number place : B → ℕ) → isAmong own 0 ≡ false →
@@ -58,7 +61,7 @@ on-table own s f h = go (reading s) refl
   where
     go : (x : Said Contents) → reading s ≡ x → DueOf own s (andThen x f)
     go (answered c) e = h c
-    go (refusing why) e = inl (refused-within s (why .number) (why .place) e)
+    go (refusing why) e = inl (refused-at s (why .number) (why .place) e)
 
 -- 8, then 10
 asked : {A : Type 0} (own s : List ℕ) (missing bad : Bool) (v : A) → isAmong own notThere ≡ true → (bad ≡ true → isAmong own badMask ≡ true) →
@@ -73,7 +76,7 @@ read-tells s = tells noOwn s countsOf (λ a. a .refusal) (λ a. a .place) refl (
   where
     go : (x : Said Contents) → reading s ≡ x → DueOf noOwn s x
     go (answered c) e = tt
-    go (refusing why) e = inl (refused-within s (why .number) (why .place) e)
+    go (refusing why) e = inl (refused-at s (why .number) (why .place) e)
 
 pub decide-tells : (s : List ℕ) (r request : ℕ) →
     Tells ofDeciding s (saysDecide s r request) (decideAnswer s r request .refusal) (decideAnswer s r request .place)
@@ -129,3 +132,17 @@ refusal-keeps-output s r out h = go (saysStrike s r out) refl h
     go : (a : Said ℕ) → saysStrike s r out ≡ a → (closedOf a .refusal ≡ 0 → ⊥) → strikeOutput s r out ≡ out
     go (answered n) e h = absurd (h refl)
     go (refusing why) e h = refused-keeps (reading s) r out why e
+
+-- 3 and 4, by whatever call they are given, point at a number of the first bad entry (02, L1)
+pub number-pointed-at : (own s : List ℕ) (n p : ℕ) → isAmong own n ≡ false → isAmong atNumber n ≡ true → Due own s n p →
+    (w : Speaks s n p) × Misnames s (w .start) (tallyOf (w .before)) n p
+number-pointed-at own s n p o h = ⊎-elim (λ w. (w, at-number s n p w h)) (λ d. never (sym (d .0) ∙ o))
+
+-- and a number below its limit there mends it: the table is accepted, or refused only beyond
+pub mending-helps : (s : List ℕ) (n p : ℕ) (w : Speaks s n p) (m : Misnames s (w .start) (tallyOf (w .before)) n p) (x : ℕ) →
+    x < limit (formOf (m .kind) .names) (tallyOf (w .before)) → (readAnswer (set s p x) .refusal ≡ 0) ⊎ (p < readAnswer (set s p x) .place)
+mending-helps s n p w m x low = go (reading (set s p x)) refl
+  where
+    go : (said : Said Contents) → reading (set s p x) ≡ said → (countsOf said .refusal ≡ 0) ⊎ (p < countsOf said .place)
+    go (answered c) e = inl refl
+    go (refusing why) e = inr (mended s n p w m x low why e)

@@ -1,13 +1,14 @@
 -- What the theorems about the letter's three demands speak of, beside the services' answers (specs/Services.antt).
-use Prim.Native.Nat.{ℕ, _<_}
+use Prim.Native.Nat.{ℕ}
 use mathlib.Core.Path.{_≡_}
 use mathlib.Core.Bool.{true, false}
 use mathlib.Core.List.{List, [], _∷_}
 use mathlib.Core.Logic.{_⊎_}
 use lib.ListN.{length}
-use Rattle.entries.specs.Refusals.{notThere, stillNamed, badMask, outputTooShort, ofReading, isAmong}
+use Rattle.entries.specs.Refusals.{notThere, stillNamed, badMask, outputTooShort, isAmong}
 use Rattle.entries.specs.Said.{Said, answered, refusing, refusal}
 use Rattle.table.specs.Contents.{Contents}
+use Rattle.table.specs.Places.{Speaks}
 use Rattle.questions.specs.Questions.{truth}
 use Rattle.pierstride.specs.Services.{walkOf}
 
@@ -24,9 +25,9 @@ ofAsking = notThere ∷ []
 abbrev pub ofStriking : List ℕ
 ofStriking = notThere ∷ stillNamed ∷ outputTooShort ∷ []
 
--- "A refusal gives its number and place": one of reading's, at a place of the table, or one of the call's own, at 0
+-- "A refusal gives its number and place": one of reading's, as the first bad entry speaks, or one of the call's own, at 0
 abbrev pub Due : List ℕ → List ℕ → ℕ → ℕ → Type 0
-Due own s n p = ((isAmong ofReading n ≡ true) × (p < length s)) ⊎ ((isAmong own n ≡ true) × (p ≡ 0))
+Due own s n p = Speaks s n p ⊎ ((isAmong own n ≡ true) × (p ≡ 0))
 
 -- `refusal` is 0 exactly if the call answered; otherwise it and `place` are those of a refusal that 01 gives the call
 pub record Tells {A : Type 0} (own s : List ℕ) (said : Said A) (number place : ℕ) : Type 0 where

@@ -2,10 +2,13 @@
 -- Assumes nothing.
 use mathlib.Core.Path.{_≡_, refl, sym, _∙_}
 use mathlib.Core.Bool.{Bool, true, false}
-use mathlib.Core.List.{List}
-use Prim.Native.Nat.{ℕ, _-_, _≤_, _<_}
+use mathlib.Core.List.{List, _∷_, _++_}
+use mathlib.Core.Logic.{inl, inr, ⊎-elim}
+use Prim.Native.Nat.{ℕ, _+_, _-_, _≤_, _<_}
 use native.Mathlib.Omega.{arith}
-use lib.ListN.{length}
+use native.Mathlib.Numerals.{add-one}
+use lib.ListN.{length, getD, length-append}
+use lib.Seq.{getD-append-add}
 use lib.Dec.{ltb}
 use borrow.Author.Tests.{ltb-true, ltb-false, lt-ltb, le-ltb}
 use Rattle.kinds.specs.declared.Kind.{Kind}
@@ -18,21 +21,22 @@ use Rattle.table.specs.declared.steps.Decoded.the-variants.{Unknown, Cut
 use Rattle.table.specs.declared.steps.Step.the-variants.{Took, Bad}
 use Rattle.entries.specs.declared.refusals.Refusal.{Refusal}
 use Rattle.entries.specs.Refusals.{unlisted, cutShort}
-use Rattle.entries.specs.Said.{Said, answered, refusing, refusal, unless}
+use Rattle.entries.specs.Said.{Said, answered, refusing, refusal}
 use Rattle.kinds.specs.Kinds.{kindOf, formOf}
-use Rattle.entries.specs.Entries.{numbersOf}
-use Rattle.table.specs.Steps.{numberAt, bodyOf, decodedBy, decoded, noRoom, misnaming, permitted, judged, stepOf, shownStep}
-use Rattle.kinds.proofs.KindTable.{byte-of-kind}
-use Rattle.entries.proofs.Saying.{unless-answered}
-use Rattle.table.proofs.Permission.{Allowed, allowed-if, Given, given, unless-given, room-given, misnaming-given}
+use Rattle.entries.specs.Entries.{numbersOf, namesOf}
+use Rattle.table.specs.Steps.{numberAt, numberPlace, entryOf, bodyOf, decodedBy, decoded}
+use Rattle.table.specs.Steps.{noRoom, limit, fits, firstUnfit, offending, misnamed, judged, stepOf, shownStep}
+use Rattle.table.specs.Places.{Misnames, Points}
+use Rattle.kinds.proofs.KindTable.{byte-of-kind, kind-of-byte}
+use Rattle.entries.proofs.Saying.{unless-answered, unless-refusing}
+use Rattle.table.proofs.Permission.{Allowed, allowed-if, room-among, not-permitted, fits-below, unfit-there}
 
 -- the two ways that a body goes
 pub body-cut : (kind : Kind) (body : List ℕ) → length body < formOf kind .numbers → bodyOf kind body ≡ Cut kind
 unfolding bodyOf
 body-cut kind body h = simp (lt-ltb _ _ h)
 
-pub body-whole : (kind : Kind) (body : List ℕ) → formOf kind .numbers ≤ length body →
-    bodyOf kind body ≡ Full (record { kind = kind; a = numberAt (formOf kind .numbers) 0 body; b = numberAt (formOf kind .numbers) 1 body })
+pub body-whole : (kind : Kind) (body : List ℕ) → formOf kind .numbers ≤ length body → bodyOf kind body ≡ Full (entryOf kind body)
 unfolding bodyOf
 body-whole kind body h = simp (le-ltb _ _ h)
 
@@ -56,9 +60,8 @@ decodes k body e q = go (kindOf k) refl q
         cut false l =
             let w = ltb-false _ _ l in
             let c = sym (body-whole kind body w) ∙ q in
-            let own : Entry = record { kind = kind; a = numberAt (formOf kind .numbers) 0 body; b = numberAt (formOf kind .numbers) 1 body } in
-            let it : Decodes k body own = record { byte = byte-of-kind k kind p; whole = w; first = refl; second = refl } in
-            let same : own ≡ e = cc c in
+            let it : Decodes k body (entryOf kind body) = record { byte = byte-of-kind k kind p; whole = w; first = refl; second = refl } in
+            let same : entryOf kind body ≡ e = cc c in
             rw same at it
 
 -- an entry that was read: what it was decoded from, and that it is allowed
@@ -73,18 +76,83 @@ step-took k body before e q = go (decoded k body) refl q
         absurd (let z : _≡_ {A = ℕ} 0 1 = cc c in omega arith)
     go (Full f) p q = let h = allowed-if f e before q in (decodes k body e (rw (h .0) at p), rw (h .0) at (h .1))
 
-pub step-given : (k : ℕ) (body : List ℕ) (before : Tally) (why : Refusal) → stepOf k body before ≡ refusing why → Given why
-unfolding stepOf judged permitted
-step-given k body before why q = go (decoded k body) q
+-- the first offending number of an entry, among the bytes that it was decoded from
+module _ (k : ℕ) (body : List ℕ) (before : Tally) (e : Entry) (t : Decodes k body e) where
+  abbrev below : ℕ
+  below = limit (namesOf e) before
+
+  there : (i x : ℕ) → x ≡ numberAt (numbersOf e) i body → i < numbersOf e → x ≡ getD body i 0
+  there i x p l = p ∙ rw (lt-ltb i (numbersOf e) l)
+
+  misnames-at : (i x : ℕ) → x ≡ numberAt (numbersOf e) i body → fits e before i x ≡ false →
+      ((j : ℕ) → 0 < j → j < numberPlace i → getD (k ∷ body) j 0 < below) →
+      Misnames (k ∷ body) 0 before (misnamed (namesOf e)) (numberPlace i)
+  misnames-at i x p h first =
+      let unfit = unfit-there (numbersOf e) below i x h in record {
+        kind = e .kind;
+        listed = rw (t .byte) at (kind-of-byte (e .kind));
+        number-is = refl;
+        whole = omega (arith, t .whole);
+        in-body = (omega arith, omega (arith, unfit .0));
+        too-high = rw (add-one i) (rw (there i x p (unfit .0)) at (unfit .1));
+        first = first;
+      }
+
+  misnames : (offending e before ≡ 0 → ⊥) → Misnames (k ∷ body) 0 before (misnamed (namesOf e)) (offending e before)
+  unfolding offending
+  misnames h = go (fits e before 0 (e .a)) refl (fits e before 1 (e .b)) refl h
+    where
+      go : (p : Bool) → fits e before 0 (e .a) ≡ p → (q : Bool) → fits e before 1 (e .b) ≡ q →
+          (_≡_ {A = ℕ} (firstUnfit p q) 0 → ⊥) →
+          Misnames (k ∷ body) 0 before (misnamed (namesOf e)) (firstUnfit p q)
+      go true a true b h = absurd (h refl)
+      go true a false b h =
+          misnames-at 1 (e .b) (t .second) b
+          (λ j l m. let one : j ≡ 1 = omega arith in
+          let two = unfit-there (numbersOf e) below 1 (e .b) b .0 in
+          let some : 0 < numbersOf e = omega (arith, two) in
+          rw (one, ← there 0 (e .a) (t .first) some) (fits-below (numbersOf e) below 0 (e .a) a some))
+      go false a q b h = misnames-at 0 (e .a) (t .first) a (λ j l m. absurd (omega arith))
+
+-- a refusal at an entry points to its kind byte, or to the first offending number
+pub step-points : (k : ℕ) (body : List ℕ) (before : Tally) (why : Refusal) → stepOf k body before ≡ refusing why →
+    Points (k ∷ body) 0 before (why .number) (why .place)
+unfolding stepOf judged
+step-points k body before why q = go (decoded k body) refl q
   where
-    go : (d : Decoded) → judged d before ≡ refusing why → Given why
-    go Unknown q = let same : refusal unlisted 0 ≡ why = cc in rw same at (given unlisted refl)
-    go (Cut kind) q =
-        unless-given (noRoom kind before) (refusing (refusal cutShort 0)) why (room-given kind before)
-        (λ p. let same : refusal cutShort 0 ≡ why = cc in rw same at (given cutShort refl)) q
-    go (Full e) q =
-        unless-given (noRoom (e .kind) before) (unless (misnaming e before) (answered e)) why (room-given (e .kind) before)
-        (unless-given (misnaming e before) (answered e) why (misnaming-given e before) (λ p. absurd (let z : _≡_ {A = ℕ} 0 1 = cc in omega arith))) q
+    go : (d : Decoded) → decoded k body ≡ d → judged d before ≡ refusing why → Points (k ∷ body) 0 before (why .number) (why .place)
+    go Unknown p q = let same : refusal unlisted 0 ≡ why = cc in rw (← same) (inl (refl, refl))
+    go (Cut kind) p q =
+        ⊎-elim
+        (λ h. rw (← h .1) (inl (room-among kind before (h .0), refl)))
+        (λ h. let same : refusal cutShort 0 ≡ why = cc in rw (← same) (inl (refl, refl)))
+        (unless-refusing (noRoom kind before) (refusing (refusal cutShort 0)) why q)
+    go (Full e) p q = ⊎-elim inl (λ h. rw (← h .1) (inr (misnames k body before e (decodes k body e p) (h .0)))) (not-permitted e before why q)
+
+-- so its place is not before the entry's start, nor behind the bytes that are left
+pub points-from : (s : List ℕ) (start : ℕ) (before : Tally) (n p : ℕ) → Points s start before n p → start ≤ p
+points-from s start before n p = ⊎-elim (λ h. omega (arith, h .1)) (λ m. omega (arith, m .in-body .0))
+
+pub points-within : (s : List ℕ) (start : ℕ) (before : Tally) (n p : ℕ) → start < length s → Points s start before n p → p < length s
+points-within s start before n p l = ⊎-elim (λ h. omega (arith, h .1)) (λ m. omega (arith, m .in-body .1, m .whole))
+
+-- behind other bytes it points there
+pub points-behind : (front s : List ℕ) (before : Tally) (n p : ℕ) → Points s 0 before n p →
+    Points (front ++ s) (length front) before n (length front + p)
+points-behind front s before n p =
+    ⊎-elim
+    (λ h. inl (h .0, omega (arith, h .1)))
+    (λ m. inr (record {
+      kind = m .kind;
+      listed = let z : length front ≡ length front + 0 = omega arith in rw (z, getD-append-add front s 0 0) (m .listed);
+      number-is = m .number-is;
+      whole = rw (length-append front s) (omega (arith, m .whole));
+      in-body = (omega (arith, m .in-body .0), omega (arith, m .in-body .1));
+      too-high = rw (getD-append-add front s p 0) (m .too-high);
+      first = λ i l u.
+          let back : i ≡ length front + (i - length front) = omega arith in
+          rw (back, getD-append-add front s (i - length front) 0) (m .first (i - length front) (omega arith) (omega arith));
+    }))
 
 -- what was said, from the step that shows it
 pub took : (x : Said Entry) (e : Entry) → shownStep x ≡ Took e → x ≡ answered e

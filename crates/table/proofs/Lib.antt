@@ -6,5 +6,7 @@ pub mod Turns
 pub mod Writing
 pub mod Opening
 pub mod Laws
+pub mod Speaking
+pub mod Mending
 pub mod Renaming
 pub mod Unique

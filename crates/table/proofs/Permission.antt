@@ -1,11 +1,14 @@
--- Whether an entry may stand behind so many rows and questions: what room means, and which refusals are given.
+-- Whether an entry may stand behind so many rows and questions: what room means, and which refusals are given, and where.
 -- Assumes nothing.
-use mathlib.Core.Path.{_≡_, refl, _∙_}
-use mathlib.Core.Bool.{Bool, true, false, cond}
+use mathlib.Core.Path.{_≡_, refl, sym, ap, _∙_}
+use mathlib.Core.Bool.{Bool, true, false, cond, _&&_}
+use mathlib.Core.List.{[], _∷_}
+use mathlib.Core.Logic.{_⊎_, inl, inr, ⊎-elim}
 use Prim.Native.Nat.{ℕ, zero, suc, _-_, _≤_, _<_}
 use native.Mathlib.Omega.{arith}
-use lib.Dec.{ltb}
-use borrow.Author.Tests.{ltb-true, ltb-false, lt-ltb, le-ltb}
+use lib.Dec.{ltb, eqb}
+use borrow.Author.Tests.{eqb-true, ltb-true, ltb-false, lt-ltb, le-ltb}
+use Rattle.belnap.proofs.Finite.{never, both-parts, or-part}
 use Rattle.kinds.specs.declared.RowKind.{RowKind}
 use Rattle.kinds.specs.declared.QuestionKind.{QuestionKind}
 use Rattle.kinds.specs.declared.Kind.{Kind}
@@ -15,12 +18,13 @@ use Rattle.kinds.specs.declared.Names.the-variants.{Nothing, Predicates, Rows, 
 use Rattle.entries.specs.declared.Entry.{Entry}
 use Rattle.table.specs.declared.steps.Tally.{Tally}
 use Rattle.entries.specs.declared.refusals.Refusal.{Refusal}
-use Rattle.entries.specs.Refusals.{rowAfterQuestion, tooManyRows, tooManyQuestions, ofReading, isAmong}
-use Rattle.entries.specs.Said.{Said, answered, refusing, refusal, unless}
+use Rattle.entries.specs.Refusals.{predicateTooHigh, notToBeNamed, rowAfterQuestion, tooManyRows, tooManyQuestions, atKindByte, atNumber, isAmong}
+use Rattle.entries.specs.Said.{answered, refusing, refusal}
 use Rattle.entries.specs.Entries.{namesOf}
-use Rattle.table.specs.Steps.{rowLimit, questionLimit, noRoom, named, misnamed, misnaming, permitted}
+use Rattle.table.specs.Steps.{rowLimit, questionLimit, numberPlace, noRoom, namedAt, fits, firstUnfit, offending, misnamed, misnaming, permitted}
+use Rattle.table.specs.Whole.{named}
 use Rattle.entries.proofs.Numbers.{by-order}
-use Rattle.entries.proofs.Saying.{unless-none, unless-answered}
+use Rattle.entries.proofs.Saying.{unless-none, unless-answered, unless-refusing}
 
 -- what room means: a row needs a place and no question before it, a question a place
 abbrev pub Room : Kind → Tally → Type 0
@@ -68,65 +72,103 @@ pub record Allowed (before : Tally) (e : Entry) : Type 0 where
   pub room : noRoom (e .kind) before ≡ 0
   pub names : named e before ≡ true
 
-misnamed-some : (names : Names) → misnamed names ≡ 0 → ⊥
-misnamed-some Nothing e = omega arith
-misnamed-some Predicates e = omega arith
-misnamed-some Rows e = omega arith
-misnamed-some Questions e = omega arith
+-- no number offends exactly if each is below its limit
+none-offends : (e : Entry) (before : Tally) → named e before ≡ true → offending e before ≡ 0
+unfolding offending
+none-offends e before h =
+    let parts = both-parts (fits e before 0 (e .a)) (fits e before 1 (e .b)) h in
+    rw (parts .0, parts .1)
+
+all-named : (e : Entry) (before : Tally) → offending e before ≡ 0 → named e before ≡ true
+unfolding offending
+all-named e before h = go (fits e before 0 (e .a)) (fits e before 1 (e .b)) h
+  where
+    go : (p q : Bool) → _≡_ {A = ℕ} (firstUnfit p q) 0 → (p && q) ≡ true
+    go true true h = refl
+    go true false h = absurd (omega arith)
+    go false q h = absurd (omega arith)
+
+-- the first offending number, by each case of which numbers fit
+pub offending-by : (e : Entry) (before : Tally) (p q : Bool) (r : ℕ) → p ≡ fits e before 0 (e .a) → q ≡ fits e before 1 (e .b) →
+    (p ≡ true → q ≡ true → r ≡ 0) → (p ≡ true → q ≡ false → r ≡ numberPlace 1) → (p ≡ false → r ≡ numberPlace 0) →
+    r ≡ offending e before
+unfolding offending
+offending-by e before true true r a b none second first = rw (← a, ← b) (none refl refl)
+offending-by e before true false r a b none second first = rw (← a, ← b) (second refl refl)
+offending-by e before false q r a b none second first = rw (← a) (first refl)
+
+-- what an answer tells of the place of 3 and 4, what a refusal does, and the refusal at a number
+misnaming-answered : (e f : Entry) (place : ℕ) → misnaming e place ≡ answered f → (e ≡ f) × (place ≡ 0)
+misnaming-answered e f zero q = (cc, refl)
+misnaming-answered e f (suc i) q = absurd (let z : _≡_ {A = ℕ} 0 1 = cc in omega arith)
+
+pub misnaming-refusing : (e : Entry) (place : ℕ) (why : Refusal) → misnaming e place ≡ refusing why →
+    (place ≡ 0 → ⊥) × (refusal (misnamed (namesOf e)) place ≡ why)
+misnaming-refusing e zero why q = absurd (let z : _≡_ {A = ℕ} 0 1 = cc in omega arith)
+misnaming-refusing e (suc i) why q = (λ z. omega arith, cc)
+
+pub misnaming-some : (e : Entry) (place : ℕ) → (place ≡ 0 → ⊥) → misnaming e place ≡ refusing (refusal (misnamed (namesOf e)) place)
+misnaming-some e zero h = absurd (h refl)
+misnaming-some e (suc i) h = refl
 
 pub permitted-if : (e : Entry) (before : Tally) → Allowed before e → permitted e before ≡ answered e
-unfolding permitted misnaming
+unfolding permitted
 permitted-if e before h =
-    let names : misnaming e before ≡ 0 = rw (h .names) in
-    unless-none (noRoom (e .kind) before) (unless (misnaming e before) (answered e)) (h .room) ∙ unless-none (misnaming e before) (answered e) names
+    unless-none (noRoom (e .kind) before) (misnaming e (offending e before)) (h .room) ∙ ap (misnaming e) (none-offends e before (h .names))
 
 pub allowed-if : (e f : Entry) (before : Tally) → permitted e before ≡ answered f → (e ≡ f) × Allowed before e
-unfolding permitted misnaming
+unfolding permitted
 allowed-if e f before q =
-    let room = unless-answered (noRoom (e .kind) before) (unless (misnaming e before) (answered e)) f q in
-    let names = unless-answered (misnaming e before) (answered e) f (room .1) in
-    (cc (names .1), record { room = room .0; names = go (named e before) refl (names .0) })
-  where
-    go : (b : Bool) → named e before ≡ b → cond b 0 (misnamed (namesOf e)) ≡ 0 → named e before ≡ true
-    go true q h = q
-    go false q h = absurd (misnamed-some (namesOf e) h)
+    let room = unless-answered (noRoom (e .kind) before) (misnaming e (offending e before)) f q in
+    let names = misnaming-answered e f (offending e before) (room .1) in
+    (names .0, record { room = room .0; names = all-named e before (names .1) })
 
--- a refusal at an entry: its number is one of reading's, and it stands at the kind byte
-pub record Given (why : Refusal) : Type 0 where
-  pub number : isAmong ofReading (why .number) ≡ true
-  pub place : why .place ≡ 0
-
-pub given : (n : ℕ) → isAmong ofReading n ≡ true → Given (refusal n 0)
-given n h = record { number = h; place = refl }
-
-pub unless-given : (n : ℕ) (x : Said Entry) (why : Refusal) → ((n ≡ 0 → ⊥) → isAmong ofReading n ≡ true) →
-    (x ≡ refusing why → Given why) → unless n x ≡ refusing why → Given why
-unless-given zero x why h rest q = rest q
-unless-given (suc n) x why h rest q =
-    let same : refusal (suc n) 0 ≡ why = cc in rw same at (given (suc n) (h (λ z. omega arith)))
-
-pub room-given : (kind : Kind) (before : Tally) → (noRoom kind before ≡ 0 → ⊥) → isAmong ofReading (noRoom kind before) ≡ true
+-- which refusals are given at the kind byte and which at a number, and that none is given at both
+pub room-among : (kind : Kind) (before : Tally) → (noRoom kind before ≡ 0 → ⊥) → isAmong atKindByte (noRoom kind before) ≡ true
 unfolding noRoom
-room-given (Row k) before h = go (ltb 0 (before .questions)) (ltb (before .rows) rowLimit) h
+room-among (Row k) before h = go (ltb 0 (before .questions)) (ltb (before .rows) rowLimit) h
   where
     go : (p q : Bool) → (_≡_ {A = ℕ} (cond p rowAfterQuestion (cond q 0 tooManyRows)) 0 → ⊥) →
-        isAmong ofReading (cond p rowAfterQuestion (cond q 0 tooManyRows)) ≡ true
+        isAmong atKindByte (cond p rowAfterQuestion (cond q 0 tooManyRows)) ≡ true
     go true q h = refl
     go false true h = absurd (h refl)
     go false false h = refl
-room-given (Question k) before h = go (ltb (before .questions) questionLimit) h
+room-among (Question k) before h = go (ltb (before .questions) questionLimit) h
   where
-    go : (p : Bool) → (_≡_ {A = ℕ} (cond p 0 tooManyQuestions) 0 → ⊥) → isAmong ofReading (cond p 0 tooManyQuestions) ≡ true
+    go : (p : Bool) → (_≡_ {A = ℕ} (cond p 0 tooManyQuestions) 0 → ⊥) → isAmong atKindByte (cond p 0 tooManyQuestions) ≡ true
     go true h = absurd (h refl)
     go false h = refl
 
-pub misnaming-given : (e : Entry) (before : Tally) → (misnaming e before ≡ 0 → ⊥) → isAmong ofReading (misnaming e before) ≡ true
-unfolding misnaming
-misnaming-given e before h = go (named e before) (namesOf e) h
+pub misnamed-number : (names : Names) → isAmong atNumber (misnamed names) ≡ true
+misnamed-number Nothing = refl
+misnamed-number Predicates = refl
+misnamed-number Rows = refl
+misnamed-number Questions = refl
+
+pub numbers-apart : (n : ℕ) → isAmong atNumber n ≡ true → isAmong atKindByte n ≡ false
+numbers-apart n h =
+    or-part (eqb n predicateTooHigh) (isAmong (notToBeNamed ∷ []) n) h
+    (λ e. rw (eqb-true n predicateTooHigh e))
+    (λ r. or-part (eqb n notToBeNamed) false r (λ e. rw (eqb-true n notToBeNamed e)) (λ e. never (sym e)))
+
+-- the refusals of an entry: there is no room for it, or a number offends
+pub not-permitted : (e : Entry) (before : Tally) (why : Refusal) → permitted e before ≡ refusing why →
+    ((isAmong atKindByte (why .number) ≡ true) × (why .place ≡ 0))
+    ⊎ ((offending e before ≡ 0 → ⊥) × (refusal (misnamed (namesOf e)) (offending e before) ≡ why))
+unfolding permitted
+not-permitted e before why q =
+    ⊎-elim
+    (λ h. inl (rw (← h .1) (room-among (e .kind) before (h .0), refl)))
+    (λ h. inr (misnaming-refusing e (offending e before) why h))
+    (unless-refusing (noRoom (e .kind) before) (misnaming e (offending e before)) why q)
+
+-- a number that fits where it stands, and one that does not
+pub fits-below : (numbers below i x : ℕ) → namedAt numbers below i x ≡ true → i < numbers → x < below
+fits-below numbers below i x h l = ltb-true x below (rw (lt-ltb i numbers l) at h)
+
+pub unfit-there : (numbers below i x : ℕ) → namedAt numbers below i x ≡ false → (i < numbers) × (below ≤ x)
+unfit-there numbers below i x h = go (ltb i numbers) refl h
   where
-    go : (b : Bool) (names : Names) → (_≡_ {A = ℕ} (cond b 0 (misnamed names)) 0 → ⊥) → isAmong ofReading (cond b 0 (misnamed names)) ≡ true
-    go true names h = absurd (h refl)
-    go false Nothing h = refl
-    go false Predicates h = refl
-    go false Rows h = refl
-    go false Questions h = refl
+    go : (there : Bool) → ltb i numbers ≡ there → cond there (ltb x below) true ≡ false → (i < numbers) × (below ≤ x)
+    go true l h = (ltb-true i numbers l, ltb-false x below h)
+    go false l h = never h

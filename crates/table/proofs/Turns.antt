@@ -23,7 +23,7 @@ use Rattle.table.specs.Reading.{after, readOn, reading, tableOf}
 use Rattle.table.proofs.Padding.{padded-more}
 use Rattle.entries.proofs.OneEntry.{size}
 use Rattle.table.proofs.Permission.{room-of}
-use Rattle.table.proofs.Decoding.{step-took}
+use Rattle.table.proofs.Decoding.{step-took, step-points, points-within}
 
 -- how many entries more are looked for does not matter, once there are as many as bytes
 after-same : (x : Said Entry) (c : Contents) (at : ℕ) (f g : ℕ → Contents → Said Contents) →
@@ -83,6 +83,14 @@ module _ (s : List ℕ) (t : Table) (at : ℕ) (h : At s t at) (l : at < length 
   pub bad : (why : Refusal) → here ≡ refusing why → reading s ≡ refusing (refusal (why .number) (at + why .place))
   unfolding after
   bad why q = sym (rw q at turn)
+
+  -- a refusal's place lies within the bytes
+  pub bad-inside : (why : Refusal) → here ≡ refusing why → at + why .place < length s
+  bad-inside why q =
+      let kind = getD s at 0 in
+      let body = drop (at + 1) s in
+      let points = step-points kind body (t .tally) why q in
+      omega (arith, points-within (kind ∷ body) 0 (t .tally) (why .number) (why .place) (omega arith) points, length-drop (at + 1) s)
 
   -- an entry that was read lies within the bytes, and the loop's head holds again behind it
   pub inside-of : (e : Entry) → here ≡ answered e → at + sizeOf e ≤ length s

@@ -1,5 +1,6 @@
--- What the promises of this crate mean: a step of reading, what a table holds, a table as it is read, and one that keeps the rules.
+-- What the promises of this crate mean: a step of reading, what a table holds, a table as it is read, one that keeps the rules, and what a refusal says.
 pub mod Steps
 pub mod Contents
 pub mod Reading
 pub mod Whole
+pub mod Places

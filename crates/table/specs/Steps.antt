@@ -1,7 +1,7 @@
 -- The limits, what bytes are decoded to, and whether an entry may stand in a table behind so many rows and questions
 -- (01, "The table, byte by byte" and "When we say no").
-use Prim.Native.Nat.{ℕ, _+_}
-use mathlib.Core.Bool.{Bool, true, cond, _&&_}
+use Prim.Native.Nat.{ℕ, zero, suc, _+_}
+use mathlib.Core.Bool.{Bool, true, false, cond}
 use mathlib.Core.List.{List}
 use lib.ListN.{length, getD}
 use lib.Dec.{ltb}
@@ -32,15 +32,21 @@ rowLimit = 256
 abbrev pub questionLimit : ℕ
 questionLimit = 64
 
--- the number at a place of a body of so many numbers; 0 where there is none
+-- number i of a body of so many numbers; 0 where there is none
 abbrev pub numberAt : ℕ → ℕ → List ℕ → ℕ
 numberAt numbers i body = cond (ltb i numbers) (getD body i 0) 0
 
+-- where it stands, counted from the kind byte
+abbrev pub numberPlace : ℕ → ℕ
+numberPlace i = i + 1
+
+-- the entry of a kind whose body begins the bytes behind the kind byte
+abbrev pub entryOf : Kind → List ℕ → Entry
+entryOf kind body = let numbers = formOf kind .numbers in record { kind = kind; a = numberAt numbers 0 body; b = numberAt numbers 1 body }
+
 -- what the bytes behind a kind byte are: the body is cut short, or they begin with it
 unfoldable pub bodyOf : Kind → List ℕ → Decoded
-bodyOf kind body =
-    let numbers = formOf kind .numbers in
-    cond (ltb (length body) (bodySize kind)) (Cut kind) (Full (record { kind = kind; a = numberAt numbers 0 body; b = numberAt numbers 1 body }))
+bodyOf kind body = cond (ltb (length body) (bodySize kind)) (Cut kind) (Full (entryOf kind body))
 
 abbrev pub decodedBy : Announced → List ℕ → Decoded
 decodedBy Unlisted body = Unknown
@@ -71,12 +77,21 @@ limit Predicates before = predicateLimit
 limit Rows before = before .rows
 limit Questions before = before .questions
 
--- each number that is there is below the limit
+-- whether number i of a body is below the limit, or not there
 abbrev pub namedAt : ℕ → ℕ → ℕ → ℕ → Bool
 namedAt numbers below i x = cond (ltb i numbers) (ltb x below) true
 
-abbrev pub named : Entry → Tally → Bool
-named e before = namedAt (numbersOf e) (limit (namesOf e) before) 0 (e .a) && namedAt (numbersOf e) (limit (namesOf e) before) 1 (e .b)
+abbrev pub fits : Entry → Tally → ℕ → ℕ → Bool
+fits e before i x = namedAt (numbersOf e) (limit (namesOf e) before) i x
+
+-- "the first offending body byte" (02, L1), by whether the first and the second number fit: its place; 0, the kind byte's, where both do
+abbrev pub firstUnfit : Bool → Bool → ℕ
+firstUnfit true true = 0
+firstUnfit true false = numberPlace 1
+firstUnfit false second = numberPlace 0
+
+unfoldable pub offending : Entry → Tally → ℕ
+offending e before = firstUnfit (fits e before 0 (e .a)) (fits e before 1 (e .b))
 
 -- 3, a predicate above 23; 4, a number that may not be named there
 abbrev pub misnamed : Names → ℕ
@@ -85,12 +100,14 @@ misnamed Predicates = predicateTooHigh
 misnamed Rows = notToBeNamed
 misnamed Questions = notToBeNamed
 
-unfoldable pub misnaming : Entry → Tally → ℕ
-misnaming e before = cond (named e before) 0 (misnamed (namesOf e))
+-- what is said of an entry by the place that offends: 3 or 4 there; the entry itself, where that is 0
+abbrev pub misnaming : Entry → ℕ → Said Entry
+misnaming e zero = answered e
+misnaming e (suc i) = refusing (refusal (misnamed (namesOf e)) (suc i))
 
 -- whether an entry may stand there: 5, 6 and 7, then 3 and 4
 unfoldable pub permitted : Entry → Tally → Said Entry
-permitted e before = unless (noRoom (e .kind) before) (unless (misnaming e before) (answered e))
+permitted e before = unless (noRoom (e .kind) before) (misnaming e (offending e before))
 
 -- 1, kind not listed; 2, the body is cut short, behind 5, 6 and 7. A refusal's place is counted from the kind byte.
 unfoldable pub judged : Decoded → Tally → Said Entry

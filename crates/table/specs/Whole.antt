@@ -1,7 +1,7 @@
 -- A table that keeps 01's rules, said of its contents (01, "The table, byte by byte"): each that reading accepts is one, and reading accepts each.
 use Prim.Native.Nat.{ℕ, suc, _≤_}
 use mathlib.Core.Path.{_≡_}
-use mathlib.Core.Bool.{Bool, true}
+use mathlib.Core.Bool.{Bool, true, _&&_}
 use mathlib.Core.List.{List, [], _∷_}
 use lib.ListN.{length}
 use Rattle.kinds.specs.declared.Kind.{Kind}
@@ -9,13 +9,17 @@ use Rattle.entries.specs.declared.Entry.{Entry}
 use Rattle.table.specs.declared.steps.Tally.{Tally}
 use Rattle.kinds.specs.Kinds.{isRow, isQuestion}
 use Rattle.entries.specs.Entries.{numbersOf}
-use Rattle.table.specs.Steps.{tally, rowLimit, questionLimit, numberAt, named}
+use Rattle.table.specs.Steps.{tally, rowLimit, questionLimit, numberAt, fits}
 use Rattle.table.specs.Contents.{Contents}
 
 -- a number that an entry's kind has not is 0
 pub record Tidy (e : Entry) : Type 0 where
   pub first : e .a ≡ numberAt (numbersOf e) 0 (e .a ∷ e .b ∷ [])
   pub second : e .b ≡ numberAt (numbersOf e) 1 (e .a ∷ e .b ∷ [])
+
+-- each number that is there is below its limit
+abbrev pub named : Entry → Tally → Bool
+named e before = fits e before 0 (e .a) && fits e before 1 (e .b)
 
 -- an entry of a part of a table, behind so many rows and questions that it may name
 pub record Sound (part : Kind → Bool) (before : Tally) (e : Entry) : Type 0 where

@@ -10,7 +10,7 @@ ghost use mathlib.Core.Path.{_≡_};
 ghost use Prim.Native.Nat.{_+_, _<_};
 ghost use lib.ListN.{length, getD, drop};
 ghost use Rattle.entries.specs.Said.{refusal};
-ghost use Rattle.table.specs.Steps.{oneMore, noRoom, limit, misnamed, numberAt, namedAt, misnaming};
+ghost use Rattle.table.specs.Steps.{oneMore, noRoom, limit, misnamed, numberAt, numberPlace, namedAt, offending};
 ghost use Rattle.table.specs.Steps.{bodyOf, decoded, permitted, judged, stepOf, shownStep};
 
 // So many rows and questions.
@@ -98,7 +98,7 @@ fn misnamed_of(names: Names) -> u8
     }
 }
 
-// Whether the number at place i is below its limit, or not there.
+// Whether number i of a body is below its limit, or not there.
 fn named_at(numbers: usize, below: usize, i: usize, x: u8) -> bool
     ensures { λ r. ⌜ r ≡ namedAt numbers below i x ⌝ }
 {
@@ -109,28 +109,46 @@ fn named_at(numbers: usize, below: usize, i: usize, x: u8) -> bool
     }
 }
 
-// 3 or 4 where an entry names what it may not, else 0.
-fn misnaming_of(e: Entry, before: Tally) -> u8
-    ensures { λ r. ⌜ r ≡ misnaming e before ⌝ }
+// Where number i of a body stands, counted from the kind byte.
+fn number_place(i: usize) -> usize
+    requires { ⌜ i < 2 ⌝ }
+    ensures { λ r. ⌜ r ≡ numberPlace i ⌝ }
+{
+    i + 1
+}
+
+// The place of the first of an entry's numbers, in the body's order, that is not below its limit; 0 where each is.
+fn offending_in(e: Entry, before: Tally) -> usize
+    ensures { λ r. ⌜ r ≡ offending e before ⌝ }
 {
     let kind = e.kind;
     let form = kinds::form_of(kind);
     let names = form.names;
     let numbers = form.numbers;
     let below = limit_of(names, before);
-    if named_at(numbers, below, 0, e.a) & named_at(numbers, below, 1, e.b) {
-        0
+    let first = named_at(numbers, below, 0, e.a);
+    let second = named_at(numbers, below, 1, e.b);
+    // one test, where nothing offends: almost every entry
+    if first & second {
+        return 0;
+    }
+    if first {
+        number_place(1)
     } else {
-        misnamed_of(names)
+        number_place(0)
     }
 }
 
-// The number at place i of the body behind a kind byte; 0 where the body has none.
+// Number i of the body behind a kind byte; 0 where the body has none.
 fn number_at(s: &[u8], at: usize, numbers: usize, i: usize) -> u8
     requires { ⌜ (at + numbers < length (now s)) × (i < 2) ⌝ }
     ensures { λ r. ⌜ r ≡ numberAt numbers i (drop (at + 1) (now (s .entry))) ⌝ }
 {
-    if i < numbers { s[at + 1 + i] } else { 0 }
+    if i < numbers {
+        s[at + number_place(i)]
+    } else {
+        0
+    }
 }
 
 // The body of an entry of a listed kind, whose kind byte stands at a place.
@@ -160,11 +178,11 @@ fn decode(s: &[u8], at: usize) -> Decoded
     }
 }
 
-// A refusal at the kind byte.
-fn bad(number: u8) -> Step
-    ensures { λ r. ⌜ r ≡ Step.Bad (refusal number 0) ⌝ }
+// A refusal, its place counted from the kind byte.
+fn bad(number: u8, place: usize) -> Step
+    ensures { λ r. ⌜ r ≡ Step.Bad (refusal number place) ⌝ }
 {
-    Step::Bad(Refusal::of(number))
+    Step::Bad(Refusal { number, place })
 }
 
 // Whether an entry may stand behind so many rows and questions.
@@ -174,11 +192,13 @@ pub(crate) fn permit(e: Entry, before: Tally) -> Step
     let kind = e.kind;
     let full = no_room(kind, before);
     if full != 0 {
-        return bad(full);
+        return bad(full, 0);
     }
-    let wrong = misnaming_of(e, before);
-    if wrong != 0 {
-        return bad(wrong);
+    let place = offending_in(e, before);
+    if place != 0 {
+        let form = kinds::form_of(kind);
+        let names = form.names;
+        return bad(misnamed_of(names), place);
     }
     Step::Took(e)
 }
@@ -189,9 +209,9 @@ fn cut_short(kind: Kind, before: Tally) -> Step
 {
     let full = no_room(kind, before);
     if full != 0 {
-        return bad(full);
+        return bad(full, 0);
     }
-    bad(refusals::CUT_SHORT)
+    bad(refusals::CUT_SHORT, 0)
 }
 
 // The entry whose kind byte stands at a place, behind so many rows and questions.
@@ -201,7 +221,7 @@ pub(crate) fn step_at(s: &[u8], at: usize, before: Tally) -> Step
 {
     let found = decode(s, at);
     match found {
-        Decoded::Unknown => bad(refusals::UNLISTED),
+        Decoded::Unknown => bad(refusals::UNLISTED, 0),
         Decoded::Cut(kind) => cut_short(kind, before),
         Decoded::Full(e) => permit(e, before),
     }

@@ -11,8 +11,8 @@ use Rattle.entries.specs.Said.{answered, refusing}
 use Rattle.table.specs.Steps.{rowLimit, questionLimit}
 use Rattle.table.specs.Reading.{shown}
 use Rattle.entries.proofs.OneEntry.{size}
-use Rattle.table.proofs.Decoding.{took, turned-away, step-given}
-use Rattle.table.proofs.Turns.{At, start, here, inside-of, taken, room-here, row-room, row-more, question-room, question-more, bad, done}
+use Rattle.table.proofs.Decoding.{took, turned-away}
+use Rattle.table.proofs.Turns.{At, start, here, inside-of, taken, room-here, row-room, row-more, question-room, question-more, bad, bad-inside, done}
 use borrow.Author.Needs.{needs}
 use Rattle.table.proofs.read.Statement.{statement}
 use Rattle.table.proofs.read.Tie as tie
@@ -125,8 +125,8 @@ refused-here c = turned-away _ (why c) (sym (c .before .before .before .before .
 
 add-place : tie.Need-add-place Inv-loop μ-loop
 add-place c =
-    let given = step-given _ _ _ (why c) (refused-here c) in
-    record { fits = omega (arith, given .place, in-refused c) }
+    let head = refused-head c in
+    record { fits = omega (arith, bad-inside (refused-bytes c) (head .loop .t) (head .loop .at) (head .loop .inv) (in-refused c) (why c) (refused-here c)) }
 
 returns : tie.Need-returns Inv-loop μ-loop
 returns c =
