@@ -12,12 +12,14 @@ use std::time::{SystemTime, UNIX_EPOCH};
 use pierstride_oracle::call::{self, Answer, Call};
 use pierstride_oracle::calls::random_call;
 use pierstride_oracle::random::Random;
-use pierstride_oracle::{crafted, laws, limits, tables, Verdict, OF_READING};
+use pierstride_oracle::tables::{self, Mixture};
+use pierstride_oracle::{crafted, laws, limits, Verdict, OF_READING};
 
 /// How many random calls each test makes; the laws and walks come on top.
 const RANDOM_CALLS: usize = 300_000;
 const CALLS_PER_TABLE: usize = 10;
 const TABLES_FOR_LAWS: usize = 150;
+const TABLES_TO_READ: usize = 2000;
 const TABLES_TO_WALK: usize = 30;
 const MOST_PREDICATES_WALKED: u8 = 12;
 
@@ -49,6 +51,19 @@ fn agrees_on_every_operator_and_set() {
     }
 }
 
+#[test]
+fn agrees_on_numbers_around_every_limit() {
+    let mut random = Random::new(0x4C31);
+    let mut comparison = Comparison::default();
+    for probe in limits::probes() {
+        for table in probe.variants() {
+            comparison.compare(&table, Call::Read);
+            comparison.compare(&table, random_call(&mut random, &table));
+        }
+        comparison.check_reading(&mut random, &probe.table());
+    }
+}
+
 fn fresh_seed() -> u64 {
     match std::env::var("PIERSTRIDE_SEED") {
         Ok(seed) => seed.parse().expect("PIERSTRIDE_SEED must be a decimal number"),
@@ -62,7 +77,8 @@ fn run(name: &str, seed: u64) {
     println!("{name}: {seed}");
     let mut random = Random::new(seed);
     let mut comparison = Comparison::default();
-    make_random_calls(name, &mut comparison, &mut random);
+    let mixture = Mixture::default();
+    make_random_calls(name, &mixture, &mut comparison, &mut random);
     println!("{name}: walks in full");
     walk_in_full(&mut comparison, &mut random);
     println!("{name}: laws, by brute force");
@@ -71,33 +87,28 @@ fn run(name: &str, seed: u64) {
         let mut answer = |table: &[u8], call| comparison.compare(table, call);
         laws::check(&mut answer, &mut random, &table);
     }
+    println!("{name}: laws of reading");
+    for _ in 0..TABLES_TO_READ {
+        let table = mixture.table(&mut random);
+        comparison.check_reading(&mut random, &table);
+    }
     comparison.report(name);
 }
 
-fn make_random_calls(name: &str, comparison: &mut Comparison, random: &mut Random) {
-    let limits = limits::tables();
+fn make_random_calls(
+    name: &str,
+    mixture: &Mixture,
+    comparison: &mut Comparison,
+    random: &mut Random,
+) {
     for number in 0..RANDOM_CALLS / CALLS_PER_TABLE {
         if number % 2000 == 0 {
             println!("{name}: {} random calls so far", number * CALLS_PER_TABLE);
         }
-        let table = random_table(random, &limits);
+        let table = mixture.table(random);
         for _ in 0..CALLS_PER_TABLE {
             comparison.compare(&table, random_call(random, &table));
         }
-    }
-}
-
-fn random_table(random: &mut Random, limits: &[Vec<u8>]) -> Vec<u8> {
-    let table = if random.one_in(4) {
-        limits[random.below(limits.len())].clone()
-    } else {
-        let shape = &tables::SHAPES[random.below(tables::SHAPES.len())];
-        tables::table(random, shape)
-    };
-    if random.one_in(3) {
-        tables::damaged(random, table)
-    } else {
-        table
     }
 }
 
@@ -142,6 +153,11 @@ impl Comparison {
         assert_eq!(fields, expected_fields, "{call:?} on {table:02x?}");
         *self.met.entry((call.name(), expected.label())).or_default() += 1;
         found
+    }
+
+    /// Checks the laws of reading on the library's answers.
+    fn check_reading(&mut self, random: &mut Random, table: &[u8]) {
+        laws::check_reading(&mut |table: &[u8], call| self.compare(table, call), random, table);
     }
 
     /// Prints how often each answer was met, and fails if one never was or if

@@ -2,16 +2,21 @@
 //!
 //! The laws are the demands of the specification, stated over answers alone:
 //! every request is tried, so they do not depend on how a walk is made or a set
-//! is formed.
+//! is formed. Those of reading are tried on given and on random bytes, and go by
+//! the list of kinds in `kinds`, not by the implementation's own.
 
 use crate::call::{Answer, Call};
+use crate::calls::random_call;
+use crate::kinds::{Group, NOT_LISTED};
 use crate::random::Random;
+use crate::refusal::{self, Refusal};
+use crate::tables::garbage;
 use crate::{read, truths, Decision, Table, Verdict, QUESTIONS, ROWS};
 
 /// Tables that use more predicates have too many requests to try them all.
 const MOST_PREDICATES: u32 = 8;
 
-/// Checks every law on the answers that `answer` gives on one accepted table.
+/// Checks every law of accepted tables on the answers that `answer` gives on one.
 pub fn check(answer: &mut dyn FnMut(&[u8], Call) -> Answer, random: &mut Random, bytes: &[u8]) {
     let mut desk = Desk { answer };
     let tried = Tried::new(&mut desk, bytes);
@@ -20,12 +25,42 @@ pub fn check(answer: &mut dyn FnMut(&[u8], Call) -> Answer, random: &mut Random,
     check_strikes(&mut desk, &tried, random);
 }
 
-/// The implementation under test. Its methods take only what is not refused.
+/// Checks every law of reading on the answers that `answer` gives on any bytes.
+///
+/// As long as they are refused for a byte that can be put right, it is, and the
+/// laws are checked on what that brings; of an accepted table a byte is spoilt.
+pub fn check_reading(
+    answer: &mut dyn FnMut(&[u8], Call) -> Answer,
+    random: &mut Random,
+    bytes: &[u8],
+) {
+    let mut desk = Desk { answer };
+    let mut bytes = bytes.to_vec();
+    while let Err(refusal) = desk.read(&bytes) {
+        match check_refusal(&mut desk, random, &bytes, refusal) {
+            Some(mended) => bytes = mended,
+            None => return,
+        }
+    }
+    check_spoilt(&mut desk, random, &bytes);
+}
+
+/// The implementation under test. Beside `read`, its methods take only what is
+/// not refused.
 struct Desk<'a> {
     answer: &'a mut dyn FnMut(&[u8], Call) -> Answer,
 }
 
 impl Desk<'_> {
+    /// How many rows and how many questions there are.
+    fn read(&mut self, bytes: &[u8]) -> Result<(usize, usize), Refusal> {
+        match (self.answer)(bytes, Call::Read) {
+            Answer::Counts { rows, questions, .. } => Ok((rows as usize, questions as usize)),
+            Answer::Refused(refusal) => Err(refusal),
+            other => panic!("{other:?} for a reading"),
+        }
+    }
+
     fn decide(&mut self, bytes: &[u8], row: usize, yes: u32) -> Decision {
         let row = row as u32;
         match (self.answer)(bytes, Call::Decide { row, yes }) {
@@ -55,7 +90,7 @@ impl Desk<'_> {
         let (row, room) = (row as u32, bytes.len());
         match (self.answer)(bytes, Call::Strike { row, room }) {
             Answer::Struck(struck) => Some(struck),
-            Answer::Refused(refusal) if refusal.number == crate::refusal::ROW_IS_NAMED => None,
+            Answer::Refused(refusal) if refusal.number == refusal::ROW_IS_NAMED => None,
             other => panic!("{other:?} for a strike"),
         }
     }
@@ -190,5 +225,126 @@ fn check_struck_rows(
         let yes = random.mask() & known;
         let before = desk.possible(tried.bytes, row, known, yes);
         assert_eq!(desk.possible(bytes, new, known, yes), before);
+    }
+}
+
+/// An entry behind bytes that are an accepted table.
+struct Entry {
+    /// Where its kind byte is.
+    start: usize,
+    /// Where its body ends, or would end if it were not cut short.
+    end: usize,
+    /// Nothing if its kind is not listed.
+    group: Option<Group>,
+    /// What each of its numbers must be below.
+    limit: usize,
+}
+
+impl Entry {
+    /// The entry that `place` lies in: it starts at the last place up to which the
+    /// bytes are an accepted table.
+    fn around(desk: &mut Desk, bytes: &[u8], place: usize) -> Entry {
+        let (start, (rows, questions)) = (0..=place)
+            .rev()
+            .find_map(|start| Some((start, desk.read(&bytes[..start]).ok()?)))
+            .expect("the empty table is accepted");
+        let group = Group::of(bytes[start]);
+        let end = start + 1 + group.map_or(0, |group| group.length);
+        let limit = group.map_or(0, |group| group.limit(rows, questions));
+        Entry { start, end, group, limit }
+    }
+
+    /// The refusal points into the body, at the first number that is not below its
+    /// limit.
+    fn check_number(&self, bytes: &[u8], refused: Refusal) {
+        let Refusal { number, place } = refused;
+        assert_eq!(self.group.map(Group::refusal), Some(number), "{bytes:02x?}");
+        let within = self.start < place && place < self.end;
+        assert!(within, "{refused:?} points outside the body: {bytes:02x?}");
+        for at in self.start + 1..=place {
+            let below = usize::from(bytes[at]) < self.limit;
+            assert_eq!(below, at < place, "number at {at}, {refused:?}: {bytes:02x?}");
+        }
+    }
+}
+
+/// A refusal of reading speaks of one entry, and the bytes before that are an
+/// accepted table. Refusals 3 and 4 point at the first of its numbers that is not
+/// below its limit, the others at its kind byte. Unless its body is cut short, the
+/// bytes behind the entry change nothing, nor do its numbers behind that place.
+/// Every call passes the refusal on.
+///
+/// Once the number is put right, or the body filled up, reading comes further: the
+/// answer is the bytes with that done, if it can be.
+fn check_refusal(
+    desk: &mut Desk,
+    random: &mut Random,
+    bytes: &[u8],
+    refused: Refusal,
+) -> Option<Vec<u8>> {
+    let Refusal { number, place } = refused;
+    let call = random_call(random, bytes);
+    let passed_on = (desk.answer)(bytes, call);
+    assert_eq!(passed_on, Answer::Refused(refused), "{call:?} on {bytes:02x?}");
+
+    let entry = Entry::around(desk, bytes, place);
+    let points_at_number =
+        matches!(number, refusal::PREDICATE_TOO_HIGH | refusal::MAY_NOT_BE_NAMED);
+    if points_at_number {
+        entry.check_number(bytes, refused);
+    } else {
+        assert_eq!(place, entry.start, "not the kind byte, {refused:?}: {bytes:02x?}");
+    }
+
+    let mut mended = bytes.to_vec();
+    if number == refusal::BODY_CUT_SHORT {
+        assert!(bytes.len() < entry.end, "the body is there: {bytes:02x?}");
+        mended.resize(entry.end, 0);
+    } else {
+        let end = if points_at_number { entry.end } else { place + 1 };
+        check_behind(desk, random, &bytes[..end], refused);
+        if !points_at_number || entry.limit == 0 {
+            return None;
+        }
+        mended[place] = random.below(entry.limit) as u8;
+    }
+    let further = desk.read(&mended).map_or_else(|again| again.place > place, |_| true);
+    assert!(further, "no further than {refused:?} of {bytes:02x?}: {mended:02x?}");
+    Some(mended)
+}
+
+/// The refusal stays if other bytes, or none, stand behind those that it speaks
+/// of, and if those of them that are behind its place are others.
+fn check_behind(desk: &mut Desk, random: &mut Random, spoken_of: &[u8], refused: Refusal) {
+    let mut bytes = spoken_of.to_vec();
+    bytes[refused.place + 1..].fill_with(|| random.number() as u8);
+    for behind in [Vec::new(), garbage(random)] {
+        let longer = [&bytes[..], &behind].concat();
+        assert_eq!(desk.read(&longer), Err(refused), "{longer:02x?}");
+    }
+}
+
+/// In an accepted table a kind that is not listed, or a number that is not below
+/// its limit, is refused at its own place.
+fn check_spoilt(desk: &mut Desk, random: &mut Random, bytes: &[u8]) {
+    if bytes.is_empty() {
+        return;
+    }
+    let place = random.below(bytes.len());
+    let entry = Entry::around(desk, bytes, place);
+    let group = entry.group.expect("a listed kind");
+    let (byte, number) = if place == entry.start {
+        (random.pick(&NOT_LISTED).into(), refusal::KIND_NOT_LISTED)
+    } else {
+        let beyond = entry.limit + random.below(256 - entry.limit);
+        (random.pick(&[entry.limit, beyond]), group.refusal())
+    };
+    // If there are 256 rows, every number is that of a row.
+    if let Ok(byte) = u8::try_from(byte) {
+        let mut spoilt = bytes.to_vec();
+        spoilt[place] = byte;
+        let refused = Refusal { number, place };
+        assert_eq!(desk.read(&spoilt), Err(refused), "{spoilt:02x?}");
+        check_refusal(desk, random, &spoilt, refused);
     }
 }

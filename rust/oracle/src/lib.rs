@@ -1,16 +1,18 @@
-//! A second implementation of Pierstride's specification, document 01.
+//! A second implementation of Pierstride's specification, which is document 01
+//! with request L1 of document 02.
 //!
-//! It is written from the document alone and as plainly as possible, so that
-//! it can be checked by reading; the library is then compared with it. It uses
-//! the library's method (each row is formed once per visit from the rows before
-//! it), so it is also what the benchmark times the library against.
+//! It is written from these alone and as plainly as possible, so that it can be
+//! checked by reading; the library is then compared with it. It uses the library's
+//! method (each row is formed once per visit from the rows before it), so it is
+//! also what the benchmark times the library against.
 //!
 //! The first group of modules is that implementation. The second group is what
 //! tests share, so that every implementation meets the same tests:
 //!
 //! - [`call`]: calls and answers as plain values;
-//! - [`notebook`]: the cases that the document lists;
+//! - [`notebook`]: the cases that document 01 lists;
 //! - [`random`], [`tables`], [`calls`]: random numbers, tables and calls;
+//! - [`kinds`]: the listed kinds, and what numbers their bodies have;
 //! - [`limits`], [`crafted`]: tables made for a purpose;
 //! - [`laws`]: what must be true of any right implementation, by brute force.
 
@@ -23,11 +25,10 @@ mod strike;
 mod table;
 mod walk;
 
-mod kinds;
-
 pub mod call;
 pub mod calls;
 pub mod crafted;
+pub mod kinds;
 pub mod laws;
 pub mod limits;
 pub mod notebook;

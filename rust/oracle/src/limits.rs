@@ -1,45 +1,102 @@
-//! Tables at every limit, and one past it.
+//! Tables at every limit, and past it.
 
 use crate::kinds::*;
 use crate::{QUESTIONS, ROWS};
 
-/// Tables at every limit, and one past it.
+/// Tables at every limit of their length, and one past it.
 pub fn tables() -> Vec<Vec<u8>> {
     let mut tables = vec![Vec::new()];
-    tables.extend([ROWS - 1, ROWS, ROWS + 1].map(|rows| vec![CONSTANTS[1]; rows]));
-    tables.extend([QUESTIONS - 1, QUESTIONS, QUESTIONS + 1].map(comparing));
-    for kind in IF_PREDICATE {
-        tables.extend([0, 22, 23, 24, 255].map(|predicate| vec![kind, predicate]));
-    }
-    tables.extend(naming());
+    tables.extend([ROWS - 1, ROWS, ROWS + 1].map(|rows| counting(rows, 0)));
+    tables.extend([QUESTIONS - 1, QUESTIONS, QUESTIONS + 1].map(|count| counting(1, count)));
     tables.extend(around_longest());
     tables
 }
 
-/// One row, and `count` comparisons of it with itself.
-fn comparing(count: usize) -> Vec<u8> {
-    [vec![CONSTANTS[2]], [COMPARISONS[1], 0, 0].repeat(count)].concat()
+/// So many rows, and so many questions that compare the first with itself.
+fn counting(rows: usize, questions: usize) -> Vec<u8> {
+    [vec![CONSTANTS[1]; rows], [COMPARISONS[1], 0, 0].repeat(questions)].concat()
 }
 
-/// Two rows, and two questions if need be, and then an entry that names in each
-/// of its places a number that it may name, its own, or a higher one.
-fn naming() -> Vec<Vec<u8>> {
-    let rows = [CONSTANTS[2], IF_PREDICATE[0], 0].to_vec();
-    let questions = [rows.clone(), [COMPARISONS[0], 0, 1].repeat(2)].concat();
-    let mut tables = Vec::new();
-    let mut put = |before: &[u8], kinds: &[u8], length: usize| {
-        for &kind in kinds {
-            for body in [[0, 1], [1, 2], [2, 1], [3, 0], [0, 255]] {
-                tables.push([before, &[kind], &body[..length]].concat());
+/// An entry whose numbers lie around their limit.
+#[derive(Debug)]
+pub struct Probe {
+    /// How many rows stand before the entry.
+    pub rows: usize,
+    /// How many questions stand before the entry.
+    pub questions: usize,
+    pub group: Group,
+    pub kind: u8,
+    pub body: Vec<u8>,
+}
+
+impl Probe {
+    /// What stands before the entry: an accepted table.
+    pub fn before(&self) -> Vec<u8> {
+        counting(self.rows, self.questions)
+    }
+
+    /// What each number of the body must be below.
+    pub fn limit(&self) -> usize {
+        self.group.limit(self.rows, self.questions)
+    }
+
+    /// The table that ends with the entry.
+    pub fn table(&self) -> Vec<u8> {
+        [&self.before()[..], &[self.kind], &self.body].concat()
+    }
+
+    /// The table that ends with the entry, its body whole and cut to every
+    /// length, and each with bytes behind it that are no entry.
+    pub fn variants(&self) -> Vec<Vec<u8>> {
+        let (table, cuts) = (self.table(), 0..=self.body.len());
+        let shortened = cuts.map(|cut| &table[..table.len() - cut]);
+        let rubbish: [&[u8]; 3] = [&[], &[0x12], &[0xFF; 3]];
+        shortened.flat_map(|table| rubbish.map(|behind| [table, behind].concat())).collect()
+    }
+}
+
+/// Entries of every kind behind few and behind many rows and questions, each
+/// number of their bodies being 0, the last below its limit, at it, or beyond.
+pub fn probes() -> Vec<Probe> {
+    let mut probes = Vec::new();
+    #[rustfmt::skip]
+    let counts = [
+        (0, 0), (1, 0), (2, 0), (ROWS - 1, 0), (ROWS, 0),
+        (1, 1), (3, 2), (1, QUESTIONS - 1), (ROWS, QUESTIONS - 1), (2, QUESTIONS),
+    ];
+    for (rows, questions) in counts {
+        for group in LISTED {
+            let numbers = numbers_around(group.limit(rows, questions));
+            for &kind in group.kinds {
+                let probe = |body| Probe { rows, questions, group, kind, body };
+                probes.extend(bodies(&numbers, group.length).into_iter().map(probe));
             }
         }
-    };
-    put(&rows, &ON_ONE_ROW, 1);
-    put(&rows, &ON_TWO_ROWS, 2);
-    put(&rows, &COMPARISONS, 2);
-    put(&questions, &[NOT], 1);
-    put(&questions, &[BOTH], 2);
-    tables
+    }
+    probes
+}
+
+/// 0, the last number below `limit`, `limit` itself, the next, and the highest,
+/// as far as there are such.
+fn numbers_around(limit: usize) -> Vec<u8> {
+    let around = [Some(0), limit.checked_sub(1), Some(limit), Some(limit + 1), Some(255)];
+    let mut numbers: Vec<u8> = around.into_iter().flatten().flat_map(u8::try_from).collect();
+    numbers.sort_unstable();
+    numbers.dedup();
+    numbers
+}
+
+/// Every body of `length` of these numbers.
+fn bodies(numbers: &[u8], length: usize) -> Vec<Vec<u8>> {
+    if length == 0 {
+        return vec![Vec::new()];
+    }
+    let shorter = bodies(numbers, length - 1);
+    let and_then = |body: &[u8], number| [body, &[number]].concat();
+    shorter
+        .iter()
+        .flat_map(|body| numbers.iter().map(move |&number| and_then(body, number)))
+        .collect()
 }
 
 /// The longest table there is, what is a byte shorter, and longer inputs. Its

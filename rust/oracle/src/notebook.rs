@@ -1,5 +1,6 @@
-//! The cases of document 01, "From the old desk's notebook", and a few beside
-//! them of the same kind.
+//! The cases of document 01, "From the old desk's notebook", with the places that
+//! document 02, L1, gives to refusals 3 and 4, and a few beside them of the same
+//! kind.
 
 use crate::call::{Answer, Call};
 use crate::{Refusal, Verdict};
@@ -103,14 +104,20 @@ fn readings() -> Vec<Case> {
         (hex("12"), refused(1, 0)),
         (hex("11"), refused(2, 0)),
         (hex("11 17"), counts(1, 0, 24)),
-        (hex("11 18"), refused(3, 0)),
-        (hex("20 00"), refused(4, 0)),
+        (hex("11 18"), refused(3, 1)),
+        (hex("20 00"), refused(4, 1)),
+        (hex("00 30 05 05"), refused(4, 2)),
+        (hex("00 30 00 05"), refused(4, 3)),
         (hex("33 00"), refused(2, 0)),
+        (hex("33 05"), refused(2, 0)),
         (hex("00 40 00 00 00"), refused(5, 4)),
+        (hex("00 40 00 00 20 05"), refused(5, 4)),
         (vec![0; 256], counts(256, 0, 0)),
         (vec![0; 257], refused(6, 256)),
+        ([vec![0; 256], hex("11 18")].concat(), refused(6, 256)),
         (comparisons(64), counts(1, 64, 0)),
         (comparisons(65), refused(7, 193)),
+        ([comparisons(64), hex("42 FF")].concat(), refused(7, 193)),
     ];
     Vec::from(expected.map(|(table, answer)| (table, Call::Read, answer)))
 }

@@ -1,6 +1,7 @@
 //! The eleven refusals.
 
-/// A refusal: its number and its place.
+/// A refusal: its number and its place. For 3 and 4 that is the place of a number,
+/// for the others of reading the place of a kind byte.
 #[derive(Clone, Copy, Debug, PartialEq, Eq)]
 pub struct Refusal {
     pub number: u32,

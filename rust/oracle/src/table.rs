@@ -121,15 +121,16 @@ impl Table {
         find(number, self.questions.len())
     }
 
-    /// Reads the entry at the front of `rest` and answers its length, or the
-    /// number of its refusal.
-    fn read_entry(&mut self, rest: &[u8]) -> Result<usize, u32> {
-        let kind = Kind::of(rest[0]).ok_or(refusal::KIND_NOT_LISTED)?;
-        self.check_room_for(kind)?;
-        let length = 1 + kind.body_length();
-        let body = rest.get(1..length).ok_or(refusal::BODY_CUT_SHORT)?;
-        self.add(kind, body)?;
-        Ok(length)
+    /// Reads the entry whose kind byte is at `place` and answers where it ends.
+    fn read_entry(&mut self, bytes: &[u8], place: usize) -> Result<usize, Refusal> {
+        let at_kind_byte = |number| Refusal { number, place };
+        let kind = Kind::of(bytes[place]).ok_or(at_kind_byte(refusal::KIND_NOT_LISTED))?;
+        self.check_room_for(kind).map_err(at_kind_byte)?;
+        let start = place + 1;
+        let end = start + kind.body_length();
+        let numbers = bytes.get(start..end).ok_or(at_kind_byte(refusal::BODY_CUT_SHORT))?;
+        self.add(kind, Body { numbers, start })?;
+        Ok(end)
     }
 
     fn check_room_for(&self, kind: Kind) -> Result<(), u32> {
@@ -146,15 +147,16 @@ impl Table {
     }
 
     /// Adds the entry of this kind and body, of the kind's length.
-    fn add(&mut self, kind: Kind, body: &[u8]) -> Result<(), u32> {
+    fn add(&mut self, kind: Kind, body: Body) -> Result<(), Refusal> {
         // A row may name the rows before it, a comparison every row: as no row
         // follows a question, both are the rows read so far.
         let (rows, questions) = (self.rows.len(), self.questions.len());
-        let row = |at: usize| nameable(body[at], rows);
-        let question = |at: usize| nameable(body[at], questions);
+        let predicate = |at| body.below(PREDICATES, at, refusal::PREDICATE_TOO_HIGH);
+        let row = |at| body.below(rows, at, refusal::MAY_NOT_BE_NAMED);
+        let question = |at| body.below(questions, at, refusal::MAY_NOT_BE_NAMED);
         match kind {
             Kind::Always(decision) => self.rows.push(Row::Always(decision)),
-            Kind::When(decision) => self.rows.push(Row::When(predicate(body[0])?, decision)),
+            Kind::When(decision) => self.rows.push(Row::When(predicate(0)?, decision)),
             Kind::Unary(operator) => self.rows.push(Row::Unary(operator, row(0)?)),
             Kind::Binary(operator) => self.rows.push(Row::Binary(operator, row(0)?, row(1)?)),
             Kind::Compare(order) => self.questions.push(Question::Compare(order, row(0)?, row(1)?)),
@@ -174,20 +176,26 @@ fn find(number: u32, count: usize) -> Result<usize, Refusal> {
     }
 }
 
-fn predicate(number: u8) -> Result<u8, u32> {
-    if usize::from(number) < PREDICATES {
-        Ok(number)
-    } else {
-        Err(refusal::PREDICATE_TOO_HIGH)
-    }
+/// The body of an entry, and where in the table it starts.
+struct Body<'a> {
+    numbers: &'a [u8],
+    start: usize,
 }
 
-/// `number` itself, if it is below `count`.
-fn nameable(number: u8, count: usize) -> Result<u8, u32> {
-    if usize::from(number) < count {
-        Ok(number)
-    } else {
-        Err(refusal::MAY_NOT_BE_NAMED)
+impl Body<'_> {
+    /// Number `at` of the body, which must be below `limit`; if it is not, the
+    /// refusal is `refusal`, at that number.
+    ///
+    /// Document 02, L1: "From now on 3 and 4 give the place of the first
+    /// offending body byte; all other places stay." It is the first because
+    /// [`Table::add`] asks for the numbers of a body in their order.
+    fn below(&self, limit: usize, at: usize, refusal: u32) -> Result<u8, Refusal> {
+        let number = self.numbers[at];
+        if usize::from(number) < limit {
+            Ok(number)
+        } else {
+            Err(Refusal { number: refusal, place: self.start + at })
+        }
     }
 }
 
@@ -196,7 +204,7 @@ pub fn read(bytes: &[u8]) -> Result<Table, Refusal> {
     let mut table = Table::empty();
     let mut place = 0;
     while place < bytes.len() {
-        place += table.read_entry(&bytes[place..]).map_err(|number| Refusal { number, place })?;
+        place = table.read_entry(bytes, place)?;
     }
     Ok(table)
 }

@@ -1,8 +1,9 @@
-//! Random tables of several shapes, and damaged ones.
+//! Random tables of several shapes, damaged ones, and a mixture of all sorts.
 
 use std::ops::RangeInclusive;
 
 use crate::kinds::*;
+use crate::limits::{self, Probe};
 use crate::random::Random;
 use crate::{PREDICATES, ROWS};
 
@@ -131,14 +132,47 @@ fn any_byte(random: &mut Random) -> u8 {
     match random.below(3) {
         0 => {
             let group = random.pick(&LISTED);
-            random.pick(group)
+            random.pick(group.kinds)
         }
         1 => random.below(PREDICATES + 2) as u8,
         _ => random.number() as u8,
     }
 }
 
-fn garbage(random: &mut Random) -> Vec<u8> {
+/// Bytes that are no table but by chance.
+pub fn garbage(random: &mut Random) -> Vec<u8> {
     let bound = random.pick(&[8, 64, 1200]);
     (0..random.below(bound)).map(|_| any_byte(random)).collect()
+}
+
+/// Tables of every sort to draw from.
+pub struct Mixture {
+    limits: Vec<Vec<u8>>,
+    probes: Vec<Probe>,
+}
+
+impl Default for Mixture {
+    fn default() -> Mixture {
+        Mixture { limits: limits::tables(), probes: limits::probes() }
+    }
+}
+
+impl Mixture {
+    /// A table of some shape, else one at a limit or with a number around one;
+    /// of each sort a third is damaged.
+    pub fn table(&self, random: &mut Random) -> Vec<u8> {
+        let table = match random.below(24) {
+            0 => self.limits[random.below(self.limits.len())].clone(),
+            1..=5 => self.probes[random.below(self.probes.len())].table(),
+            _ => {
+                let shape = &SHAPES[random.below(SHAPES.len())];
+                table(random, shape)
+            }
+        };
+        if random.one_in(3) {
+            damaged(random, table)
+        } else {
+            table
+        }
+    }
 }

@@ -1,8 +1,11 @@
 //! The oracle alone: the notebook's cases, the laws, and the generators.
 
 use pierstride_oracle::call::{answer, Answer, Call};
+use pierstride_oracle::limits::Probe;
 use pierstride_oracle::random::Random;
-use pierstride_oracle::{crafted, laws, limits, notebook, read, tables, Verdict};
+use pierstride_oracle::tables::{self, Mixture};
+use pierstride_oracle::{crafted, laws, limits, notebook, read};
+use pierstride_oracle::{Refusal, Verdict, QUESTIONS, ROWS};
 
 #[test]
 fn answers_the_notebook() {
@@ -16,6 +19,55 @@ fn keeps_the_laws() {
         let table = tables::table(&mut random, &tables::SMALL);
         laws::check(&mut answer, &mut random, &table);
     }
+}
+
+#[test]
+fn keeps_the_laws_of_reading() {
+    let mut random = Random::new(3);
+    for probe in limits::probes() {
+        laws::check_reading(&mut answer, &mut random, &probe.table());
+    }
+    let mixture = Mixture::default();
+    for _ in 0..3000 {
+        let table = mixture.table(&mut random);
+        laws::check_reading(&mut answer, &mut random, &table);
+    }
+}
+
+/// Every kind, with each of its numbers below its limit, at it and beyond, with
+/// its body whole and cut short, and with bytes behind it.
+#[test]
+fn points_at_the_first_number_that_is_not_below_its_limit() {
+    for probe in limits::probes() {
+        for table in probe.variants() {
+            assert_eq!(read(&table).err(), scan(&probe, &table), "{table:02x?}");
+        }
+    }
+}
+
+/// What reading must refuse in a variant of the probe's table, by looking at its
+/// bytes one after the other. Behind the entry stands nothing, or what is no kind.
+fn scan(probe: &Probe, table: &[u8]) -> Option<Refusal> {
+    let start = probe.before().len();
+    let end = start + 1 + probe.group.length;
+    let at_kind_byte = |number| Some(Refusal { number, place: start });
+    if !probe.group.is_question && probe.questions > 0 {
+        return at_kind_byte(5);
+    }
+    if !probe.group.is_question && probe.rows == ROWS {
+        return at_kind_byte(6);
+    }
+    if probe.group.is_question && probe.questions == QUESTIONS {
+        return at_kind_byte(7);
+    }
+    if table.len() < end {
+        return at_kind_byte(2);
+    }
+    let bad = (start + 1..end).find(|&place| usize::from(table[place]) >= probe.limit());
+    if let Some(place) = bad {
+        return Some(Refusal { number: probe.group.refusal(), place });
+    }
+    (end < table.len()).then_some(Refusal { number: 1, place: end })
 }
 
 #[test]
