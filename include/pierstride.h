@@ -31,23 +31,28 @@ extern "C" {
 /*
  * The refusals, in the order in which they are looked for. The first seven are
  * those of reading, which every call may give: they are looked for entry by
- * entry from the front, and the place is that of the kind byte of the first bad
- * entry. The others speak of what was asked, and their place is 0. A refusal
- * changes no byte of any slice.
+ * entry from the front, so the first bad entry speaks. The others speak of what
+ * was asked. A refusal changes no byte of any slice.
+ *
+ * The place is an index into the table's bytes, from 0. What stands there is the
+ * first word of each line:
+ *   entry   the kind byte of the bad entry
+ *   number  the bad number, in the body of the bad entry; the first, if two are bad
+ *   none    nothing; the place is 0
  */
 enum {
     PIER_NO_REFUSAL = 0,
-    PIER_KIND_NOT_LISTED = 1,    /* the kind is not listed */
-    PIER_ROW_AFTER_QUESTION = 5, /* a row comes after a question */
-    PIER_TOO_MANY_ROWS = 6,      /* there is a 257th row */
-    PIER_TOO_MANY_QUESTIONS = 7, /* there is a 65th question */
-    PIER_BODY_CUT_SHORT = 2,     /* the body is cut short */
-    PIER_PREDICATE_ABOVE_23 = 3, /* a predicate is above 23 */
-    PIER_MAY_NOT_BE_NAMED = 4,   /* a number may not be named there */
-    PIER_NOT_THERE = 8,          /* the row or question asked for is not there */
-    PIER_ROW_IS_NAMED = 9,       /* the row to strike is named by a row or question */
-    PIER_BAD_MASK = 10,          /* a mask has a bit above 23, or a yes that is not known */
-    PIER_OUTPUT_TOO_SHORT = 11   /* the output is shorter than the bytes to write */
+    PIER_KIND_NOT_LISTED = 1,    /* entry: its kind is not listed */
+    PIER_ROW_AFTER_QUESTION = 5, /* entry: it is a row after a question */
+    PIER_TOO_MANY_ROWS = 6,      /* entry: it is a 257th row */
+    PIER_TOO_MANY_QUESTIONS = 7, /* entry: it is a 65th question */
+    PIER_BODY_CUT_SHORT = 2,     /* entry: its body is cut short */
+    PIER_PREDICATE_ABOVE_23 = 3, /* number: it is a predicate above 23 */
+    PIER_MAY_NOT_BE_NAMED = 4,   /* number: it may not be named there */
+    PIER_NOT_THERE = 8,          /* none: the row or question asked for is not there */
+    PIER_ROW_IS_NAMED = 9,       /* none: a row or question names the row to strike */
+    PIER_BAD_MASK = 10,          /* none: a mask bit is above 23, or a yes is not known */
+    PIER_OUTPUT_TOO_SHORT = 11   /* none: the output is shorter than the bytes to write */
 };
 
 /* The decisions. */

@@ -33,50 +33,75 @@ pub mod raw;
 
 use std::fmt;
 
-/// Why a call was not answered.
-///
-/// Refusals 1 to 7 speak of the first bad entry of the table and give the place
-/// of its kind byte; 8 to 11 speak of what was asked, and their place is 0.
-///
-/// | Number | Given when |
-/// |---|---|
-/// | 1 | the kind is not listed |
-/// | 2 | the body is cut short |
-/// | 3 | a predicate is above 23 |
-/// | 4 | a number may not be named there |
-/// | 5 | a row comes after a question |
-/// | 6 | there is a 257th row |
-/// | 7 | there is a 65th question |
-/// | 8 | the row or question asked for is not there |
-/// | 9 | the row to strike is named by a row or question |
-/// | 10 | a mask has a bit above 23, or a yes that is not known |
-/// | 11 | the output is shorter than the bytes to write |
-#[derive(Clone, Copy, Debug, PartialEq, Eq)]
-pub struct Refusal {
-    /// The number of the refusal, 1 to 11.
-    pub number: u32,
-    /// The place in the table of the kind byte that it speaks of, or 0.
-    pub place: usize,
+/// Declares [`Refusal`] and its messages from one table: each refusal's number, what
+/// its place points at, if at anything, and what is said of that.
+macro_rules! refusals {
+    ($($number:literal: $(the $pointed_at:ident at place)? $reason:literal;)*) => {
+        /// Why a call was not answered.
+        ///
+        /// Refusals 1 to 7 are those of reading and speak of the first bad entry of
+        /// the table. Of these, 3 and 4 give the place of a number: the first in the
+        /// entry's body that is not below its limit. The others give the place of
+        /// the entry, which is that of its kind byte. Refusals 8 to 11 speak of what
+        /// was asked, and their place is 0.
+        ///
+        /// | Number | Given when |
+        /// |---|---|
+        $(
+            #[doc = concat!(
+                "| ", $number, " | ", $("the ", stringify!($pointed_at), " at the place ",)?
+                $reason, " |"
+            )]
+        )*
+        ///
+        /// Displayed, it is a line for a reader who has the table at hand:
+        ///
+        /// ```
+        /// let refusal = pierstride::read(&[0x00, 0x30, 0x00, 0x05]).unwrap_err();
+        /// assert_eq!((refusal.number, refusal.place), (4, 3));
+        /// let message = "refused 4: the number at place 3 may not be named there";
+        /// assert_eq!(refusal.to_string(), message);
+        /// ```
+        #[derive(Clone, Copy, Debug, PartialEq, Eq)]
+        pub struct Refusal {
+            /// The number of the refusal, 1 to 11.
+            pub number: u32,
+            /// Its place among the table's bytes, from 0; 0 if it points at nothing.
+            pub place: usize,
+        }
+
+        impl fmt::Display for Refusal {
+            fn fmt(&self, f: &mut fmt::Formatter) -> fmt::Result {
+                write!(f, "refused {}: ", self.number)?;
+                match self.number {
+                    $(
+                        $number => {
+                            $(
+                                let pointed_at = stringify!($pointed_at);
+                                write!(f, "the {pointed_at} at place {} ", self.place)?;
+                            )?
+                            f.write_str($reason)
+                        }
+                    )*
+                    _ => f.write_str("unknown reason"),
+                }
+            }
+        }
+    };
 }
 
-impl fmt::Display for Refusal {
-    fn fmt(&self, f: &mut fmt::Formatter) -> fmt::Result {
-        let reason = match self.number {
-            1 => "the kind is not listed",
-            2 => "the body is cut short",
-            3 => "a predicate is above 23",
-            4 => "a number may not be named there",
-            5 => "a row comes after a question",
-            6 => "there is a 257th row",
-            7 => "there is a 65th question",
-            8 => "the row or question asked for is not there",
-            9 => "the row to strike is named by a row or question",
-            10 => "a mask has a bit above 23, or a yes that is not known",
-            11 => "the output is shorter than the bytes to write",
-            _ => "unknown reason",
-        };
-        write!(f, "refused {} at {}: {reason}", self.number, self.place)
-    }
+refusals! {
+    1: the entry at place "has a kind that is not listed";
+    2: the entry at place "is cut short";
+    3: the number at place "is a predicate above 23";
+    4: the number at place "may not be named there";
+    5: the entry at place "is a row after a question";
+    6: the entry at place "is a 257th row";
+    7: the entry at place "is a 65th question";
+    8: "the row or question asked for is not there";
+    9: "the row to strike is named by a row or question";
+    10: "a mask has a bit above 23, or a yes that is not known";
+    11: "the output is shorter than the bytes to write";
 }
 
 impl std::error::Error for Refusal {}
