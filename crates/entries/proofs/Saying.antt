@@ -1,11 +1,15 @@
--- Laws of what is said: a refusal's number that may stop it.
+-- Laws of what is said: an answer or a refusal, and a refusal's number that may stop it.
 -- Assumes nothing.
-use mathlib.Core.Path.{_≡_, refl}
+use mathlib.Core.Path.{_≡_, refl, sym}
 use mathlib.Core.Logic.{_⊎_, inl, inr}
 use Prim.Native.Nat.{ℕ, zero, suc, _-_}
 use native.Mathlib.Omega.{arith}
 use Rattle.entries.specs.declared.refusals.Refusal.{Refusal}
 use Rattle.entries.specs.Said.{Said, answered, refusing, refusal, unless}
+
+-- an answer is no refusal
+pub not-both : {A P : Type 0} {v : A} {why : Refusal} → answered v ≡ refusing why → P
+not-both q = absurd (let z : _≡_ {A = ℕ} 0 1 = cc in omega arith)
 
 -- a refusal's number that may stop what is said: where it is 0, where it is not, and what an answer or a refusal tells of it
 pub unless-none : {A : Type 0} (n : ℕ) (x : Said A) → n ≡ 0 → unless n x ≡ x
@@ -18,7 +22,7 @@ unless-some (suc n) x h = refl
 
 pub unless-answered : {A : Type 0} (n : ℕ) (x : Said A) (v : A) → unless n x ≡ answered v → (n ≡ 0) × (x ≡ answered v)
 unless-answered zero x v q = (refl, q)
-unless-answered (suc n) x v q = absurd (let z : _≡_ {A = ℕ} 0 1 = cc in omega arith)
+unless-answered (suc n) x v q = not-both (sym q)
 
 pub unless-refusing : {A : Type 0} (n : ℕ) (x : Said A) (why : Refusal) → unless n x ≡ refusing why →
     ((n ≡ 0 → ⊥) × (refusal n 0 ≡ why)) ⊎ (x ≡ refusing why)

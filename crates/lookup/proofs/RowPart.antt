@@ -18,6 +18,7 @@ use Rattle.lookup.specs.declared.Place.the-variants.{At, Missing}
 use Rattle.entries.specs.Refusals.{notThere, ifMissing}
 use Rattle.entries.specs.Said.{Said, answered, refusing, refusal, unless}
 use Rattle.entries.specs.Entries.{blank, sizeOf, bytesOf}
+use Rattle.entries.proofs.Saying.{not-both}
 use Rattle.table.specs.Steps.{rowLimit}
 use Rattle.table.specs.Contents.{Contents, written}
 use Rattle.table.specs.Reading.{reading, tableOf}
@@ -62,9 +63,9 @@ place-tells (answered c) r part q = go (leb (length (c .rows)) r) refl q
   where
     go : (b : Bool) → leb (length (c .rows)) r ≡ b → unless (ifMissing b) (answered (partOf r c)) ≡ answered part →
         (d : Contents) × (answered c ≡ answered d) × (r < length (d .rows)) × (partOf r d ≡ part)
-    go true e q = absurd (let z : _≡_ {A = ℕ} 0 1 = cc in omega arith)
+    go true e q = not-both (sym q)
     go false e q = (c, refl, leb-false _ _ e, cc)
-place-tells (refusing why) r part q = absurd (let z : _≡_ {A = ℕ} 0 1 = cc in omega arith)
+place-tells (refusing why) r part q = not-both (sym q)
 
 -- the bytes of an accepted table, taken apart at a row
 module _ (s : List ℕ) (c : Contents) (r : ℕ) (q : reading s ≡ answered c) (h : r < length (c .rows)) where

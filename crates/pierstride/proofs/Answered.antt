@@ -1,6 +1,6 @@
 -- What a service that refused nothing has answered: of which table, and what.
 -- Assumes nothing.
-use mathlib.Core.Path.{_≡_, refl, ap, _∙_}
+use mathlib.Core.Path.{_≡_, refl, sym, ap, _∙_}
 use mathlib.Core.Bool.{Bool, true, false}
 use mathlib.Core.List.{List}
 use Prim.Native.Nat.{ℕ, zero, suc, _<_}
@@ -10,6 +10,7 @@ use lib.Dec.{leb}
 use borrow.Author.Tests.{leb-false, lt-leb}
 use Rattle.entries.specs.declared.refusals.Refusal.{Refusal}
 use Rattle.entries.specs.Said.{Said, answered, refusing, refusal, andThen, unless}
+use Rattle.entries.proofs.Saying.{not-both}
 use Rattle.table.specs.Contents.{Contents}
 use Rattle.table.specs.Reading.{reading}
 use Rattle.decide.specs.Meaning.{decision}
@@ -26,7 +27,7 @@ table-of s f v = go (reading s) refl
   where
     go : (x : Said Contents) → reading s ≡ x → andThen x f ≡ answered v → (c : Contents) × (reading s ≡ answered c)
     go (answered c) e q = (c, e)
-    go (refusing why) e q = absurd (let z : _≡_ {A = ℕ} 0 1 = cc in omega arith)
+    go (refusing why) e q = not-both (sym q)
 
 -- nothing was wrong with what was asked
 asked-well : {A B : Type 0} (shows : Said A → B) (number : B → ℕ) → ((why : Refusal) → number (shows (refusing why)) ≡ why .number) →

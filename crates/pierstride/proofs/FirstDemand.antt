@@ -6,13 +6,13 @@ use mathlib.Core.Bool.{Bool, true, false}
 use mathlib.Core.List.{List}
 use mathlib.Core.Logic.{_⊎_, inl, inr, ⊎-elim}
 use Prim.Native.Nat.{ℕ, _<_}
-use native.Mathlib.Omega.{arith}
 use lib.ListN.{length, set}
 use lib.Dec.{leb}
 use Rattle.belnap.proofs.Finite.{never}
 use Rattle.entries.specs.declared.refusals.Refusal.{Refusal}
 use Rattle.entries.specs.Refusals.{notThere, badMask, ifMissing, atNumber, isAmong}
 use Rattle.entries.specs.Said.{Said, answered, refusing, andThen, unless}
+use Rattle.entries.proofs.Saying.{not-both}
 use Rattle.kinds.specs.Kinds.{formOf}
 use Rattle.table.specs.Steps.{limit}
 use Rattle.table.specs.Contents.{Contents, tallyOf}
@@ -51,7 +51,7 @@ tells own s shows number place o a r (answered v) d = record {
 }
 tells own s shows number place o a r (refusing why) d = record {
   answers = λ e. absurd (never-zero own s (why .number) (why .place) o d (sym (r why .0) ∙ e));
-  none = λ w e. absurd (let z : _≡_ {A = ℕ} 0 1 = cc in omega arith);
+  none = λ w e. not-both (sym e);
   refuses = λ h. rw (r why .0, r why .1) (refl, d);
 }
 

@@ -13,7 +13,7 @@ use Rattle.entries.specs.Refusals.{ifMissing}
 use Rattle.entries.specs.Said.{Said, answered, refusing, unless}
 use Rattle.table.specs.Contents.{Contents, entries}
 use Rattle.table.specs.Reading.{reading}
-use Rattle.entries.proofs.Saying.{unless-answered}
+use Rattle.entries.proofs.Saying.{not-both, unless-answered}
 use Rattle.strike.specs.declared.Struck.the-variants.{Written, Refused}
 use Rattle.strike.specs.Strike.{struck, struckBytes, namedBy, missing, inUse, tooShort, strikeRefusal, struckAnswer, shownStruck, struckOutput}
 use Rattle.strike.proofs.Laws.{struck-accepted, output-of}
@@ -54,7 +54,7 @@ done-of (answered c) r room n q =
       count = m;
       fits = omega (arith, ltb-false room size (neither .1), m);
     }
-done-of (refusing why) r room n q = absurd (let z : _≡_ {A = ℕ} 0 1 = cc in omega arith)
+done-of (refusing why) r room n q = not-both (sym q)
 
 -- "a refusal changes no lent byte"
 pub refused-keeps : (x : Said Contents) (r : ℕ) (out : List ℕ) (why : Refusal) → struckAnswer x r (length out) ≡ refusing why →

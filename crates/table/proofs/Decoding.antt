@@ -25,11 +25,11 @@ use Rattle.entries.specs.Said.{Said, answered, refusing, refusal}
 use Rattle.kinds.specs.Kinds.{kindOf, formOf}
 use Rattle.entries.specs.Entries.{numbersOf, namesOf}
 use Rattle.table.specs.Steps.{numberAt, numberPlace, entryOf, bodyOf, decodedBy, decoded}
-use Rattle.table.specs.Steps.{noRoom, limit, fits, firstUnfit, offending, misnamed, judged, stepOf, shownStep}
+use Rattle.table.specs.Steps.{noRoom, limit, fits, firstUnfit, offending, misnamed, misnaming, permitted, judged, stepOf, shownStep}
 use Rattle.table.specs.Places.{Misnames, Points}
 use Rattle.kinds.proofs.KindTable.{byte-of-kind, kind-of-byte}
-use Rattle.entries.proofs.Saying.{unless-answered, unless-refusing}
-use Rattle.table.proofs.Permission.{Allowed, allowed-if, room-among, not-permitted, fits-below, unfit-there}
+use Rattle.entries.proofs.Saying.{not-both, unless-answered}
+use Rattle.table.proofs.Permission.{Allowed, allowed-if, misnaming-refusing, no-room-or, fits-below, unfit-there}
 
 -- the two ways that a body goes
 pub body-cut : (kind : Kind) (body : List ℕ) → length body < formOf kind .numbers → bodyOf kind body ≡ Cut kind
@@ -70,10 +70,8 @@ unfolding stepOf judged
 step-took k body before e q = go (decoded k body) refl q
   where
     go : (d : Decoded) → decoded k body ≡ d → judged d before ≡ answered e → Decodes k body e × Allowed before e
-    go Unknown p q = absurd (let z : _≡_ {A = ℕ} 0 1 = cc in omega arith)
-    go (Cut kind) p q =
-        let c = unless-answered (noRoom kind before) (refusing (refusal cutShort 0)) e q .1 in
-        absurd (let z : _≡_ {A = ℕ} 0 1 = cc c in omega arith)
+    go Unknown p q = not-both (sym q)
+    go (Cut kind) p q = not-both (sym (unless-answered (noRoom kind before) (refusing (refusal cutShort 0)) e q .1))
     go (Full f) p q = let h = allowed-if f e before q in (decodes k body e (rw (h .0) at p), rw (h .0) at (h .1))
 
 -- the first offending number of an entry, among the bytes that it was decoded from
@@ -117,17 +115,20 @@ module _ (k : ℕ) (body : List ℕ) (before : Tally) (e : Entry) (t : Decodes k
 -- a refusal at an entry points to its kind byte, or to the first offending number
 pub step-points : (k : ℕ) (body : List ℕ) (before : Tally) (why : Refusal) → stepOf k body before ≡ refusing why →
     Points (k ∷ body) 0 before (why .number) (why .place)
-unfolding stepOf judged
+unfolding stepOf judged permitted
 step-points k body before why q = go (decoded k body) refl q
   where
     go : (d : Decoded) → decoded k body ≡ d → judged d before ≡ refusing why → Points (k ∷ body) 0 before (why .number) (why .place)
     go Unknown p q = let same : refusal unlisted 0 ≡ why = cc in rw (← same) (inl (refl, refl))
     go (Cut kind) p q =
-        ⊎-elim
-        (λ h. rw (← h .1) (inl (room-among kind before (h .0), refl)))
+        ⊎-elim inl
         (λ h. let same : refusal cutShort 0 ≡ why = cc in rw (← same) (inl (refl, refl)))
-        (unless-refusing (noRoom kind before) (refusing (refusal cutShort 0)) why q)
-    go (Full e) p q = ⊎-elim inl (λ h. rw (← h .1) (inr (misnames k body before e (decodes k body e p) (h .0)))) (not-permitted e before why q)
+        (no-room-or kind before (refusing (refusal cutShort 0)) why q)
+    go (Full e) p q =
+        ⊎-elim inl
+        (λ h. let told = misnaming-refusing e (offending e before) why h in
+        rw (← told .1) (inr (misnames k body before e (decodes k body e p) (told .0))))
+        (no-room-or (e .kind) before (misnaming e (offending e before)) why q)
 
 -- so its place is not before the entry's start, nor behind the bytes that are left
 pub points-from : (s : List ℕ) (start : ℕ) (before : Tally) (n p : ℕ) → Points s start before n p → start ≤ p

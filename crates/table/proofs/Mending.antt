@@ -6,7 +6,7 @@ use mathlib.Core.Logic.{⊎-elim}
 use Prim.Native.Nat.{ℕ, zero, suc, _+_, _-_, _≤_, _<_}
 use native.Mathlib.Omega.{arith}
 use lib.ListN.{length, getD, drop, set, length-drop, length-set, take-append-drop}
-use lib.Seq.{drop-cons, take-set-le, getD-set-same, getD-set-other, getD-drop}
+use lib.Seq.{take-set-le, getD-set-same, getD-set-other, getD-drop}
 use Rattle.entries.specs.declared.refusals.Refusal.{Refusal}
 use Rattle.kinds.specs.declared.Kind.{Kind}
 use Rattle.kinds.specs.declared.Announced.{Announced}
@@ -23,9 +23,10 @@ use Rattle.table.specs.Places.{Misnames, Speaks}
 use Rattle.kinds.proofs.KindTable.{kind-of-byte}
 use Rattle.entries.proofs.Numbers.{by-order}
 use Rattle.entries.proofs.OneEntry.{size}
-use Rattle.entries.proofs.Saying.{unless-refusing}
+use Rattle.entries.proofs.Saying.{not-both, unless-refusing}
 use Rattle.table.proofs.Permission.{misnaming-refusing}
 use Rattle.table.proofs.Decoding.{body-cut, body-whole, step-took, step-points}
+use Rattle.table.proofs.Turns.{bytes-from}
 use Rattle.table.proofs.Speaking.{room-refuses, kind-byte, behind, read-up-to}
 
 -- a refusal at the kind byte does not look at the numbers
@@ -49,8 +50,8 @@ numbers-unseen k body other before why l z q = go (kindOf k) q
 -- reading from a place on refuses nothing before it
 reads-from : (more : ℕ) (c : Contents) (at : ℕ) (s : List ℕ) (why : Refusal) → readOn more c at s ≡ refusing why → at ≤ why .place
 unfolding readOn after
-reads-from zero c at s why q = absurd (let z : _≡_ {A = ℕ} 0 1 = cc in omega arith)
-reads-from (suc more) c at [] why q = absurd (let z : _≡_ {A = ℕ} 0 1 = cc in omega arith)
+reads-from zero c at s why q = not-both q
+reads-from (suc more) c at [] why q = not-both q
 reads-from (suc more) c at (k ∷ s) why q =
     go (stepOf k s (tallyOf c)) (λ e. reads-from more (withEntry c e) (at + sizeOf e) (drop (sizeOf e) (k ∷ s)) why) q
   where
@@ -83,9 +84,8 @@ module _ (s : List ℕ) (n p : ℕ) (w : Speaks s n p) (m : Misnames s (w .start
   -- it is read up to the same entry
   split-mended : drop (w .start) mended-bytes ≡ k ∷ rest
   split-mended =
-      let next : w .start + 1 ≡ suc (w .start) = omega arith in
       let kind : getD mended-bytes (w .start) 0 ≡ k = getD-set-other s p (w .start) x 0 (λ z. omega (arith, start-before)) in
-      rw (next, ← kind) (drop-cons mended-bytes (w .start) 0 (omega (arith, start-before, w .within, length-set s p x)))
+      rw (← kind) (bytes-from mended-bytes (w .start) (omega (arith, start-before, w .within, length-set s p x)))
 
   read-mended : reading mended-bytes ≡ readOn (suc (length rest)) (w .before) (w .start) (k ∷ rest)
   read-mended =

@@ -19,12 +19,12 @@ use Rattle.entries.specs.declared.Entry.{Entry}
 use Rattle.table.specs.declared.steps.Tally.{Tally}
 use Rattle.entries.specs.declared.refusals.Refusal.{Refusal}
 use Rattle.entries.specs.Refusals.{predicateTooHigh, notToBeNamed, rowAfterQuestion, tooManyRows, tooManyQuestions, atKindByte, atNumber, isAmong}
-use Rattle.entries.specs.Said.{answered, refusing, refusal}
+use Rattle.entries.specs.Said.{Said, answered, refusing, refusal, unless}
 use Rattle.entries.specs.Entries.{namesOf}
 use Rattle.table.specs.Steps.{rowLimit, questionLimit, numberPlace, noRoom, namedAt, fits, firstUnfit, offending, misnamed, misnaming, permitted}
 use Rattle.table.specs.Whole.{named}
 use Rattle.entries.proofs.Numbers.{by-order}
-use Rattle.entries.proofs.Saying.{unless-none, unless-answered, unless-refusing}
+use Rattle.entries.proofs.Saying.{not-both, unless-none, unless-answered, unless-refusing}
 
 -- what room means: a row needs a place and no question before it, a question a place
 abbrev pub Room : Kind → Tally → Type 0
@@ -100,11 +100,11 @@ offending-by e before false q r a b none second first = rw (← a) (first refl)
 -- what an answer tells of the place of 3 and 4, what a refusal does, and the refusal at a number
 misnaming-answered : (e f : Entry) (place : ℕ) → misnaming e place ≡ answered f → (e ≡ f) × (place ≡ 0)
 misnaming-answered e f zero q = (cc, refl)
-misnaming-answered e f (suc i) q = absurd (let z : _≡_ {A = ℕ} 0 1 = cc in omega arith)
+misnaming-answered e f (suc i) q = not-both (sym q)
 
 pub misnaming-refusing : (e : Entry) (place : ℕ) (why : Refusal) → misnaming e place ≡ refusing why →
     (place ≡ 0 → ⊥) × (refusal (misnamed (namesOf e)) place ≡ why)
-misnaming-refusing e zero why q = absurd (let z : _≡_ {A = ℕ} 0 1 = cc in omega arith)
+misnaming-refusing e zero why q = not-both q
 misnaming-refusing e (suc i) why q = (λ z. omega arith, cc)
 
 pub misnaming-some : (e : Entry) (place : ℕ) → (place ≡ 0 → ⊥) → misnaming e place ≡ refusing (refusal (misnamed (namesOf e)) place)
@@ -124,7 +124,7 @@ allowed-if e f before q =
     (names .0, record { room = room .0; names = all-named e before (names .1) })
 
 -- which refusals are given at the kind byte and which at a number, and that none is given at both
-pub room-among : (kind : Kind) (before : Tally) → (noRoom kind before ≡ 0 → ⊥) → isAmong atKindByte (noRoom kind before) ≡ true
+room-among : (kind : Kind) (before : Tally) → (noRoom kind before ≡ 0 → ⊥) → isAmong atKindByte (noRoom kind before) ≡ true
 unfolding noRoom
 room-among (Row k) before h = go (ltb 0 (before .questions)) (ltb (before .rows) rowLimit) h
   where
@@ -151,16 +151,11 @@ numbers-apart n h =
     (λ e. rw (eqb-true n predicateTooHigh e))
     (λ r. or-part (eqb n notToBeNamed) false r (λ e. rw (eqb-true n notToBeNamed e)) (λ e. never (sym e)))
 
--- the refusals of an entry: there is no room for it, or a number offends
-pub not-permitted : (e : Entry) (before : Tally) (why : Refusal) → permitted e before ≡ refusing why →
-    ((isAmong atKindByte (why .number) ≡ true) × (why .place ≡ 0))
-    ⊎ ((offending e before ≡ 0 → ⊥) × (refusal (misnamed (namesOf e)) (offending e before) ≡ why))
-unfolding permitted
-not-permitted e before why q =
-    ⊎-elim
-    (λ h. inl (rw (← h .1) (room-among (e .kind) before (h .0), refl)))
-    (λ h. inr (misnaming-refusing e (offending e before) why h))
-    (unless-refusing (noRoom (e .kind) before) (misnaming e (offending e before)) why q)
+-- a refusal where there may be no room: that, at the kind byte, or what else is said
+pub no-room-or : (kind : Kind) (before : Tally) (x : Said Entry) (why : Refusal) → unless (noRoom kind before) x ≡ refusing why →
+    ((isAmong atKindByte (why .number) ≡ true) × (why .place ≡ 0)) ⊎ (x ≡ refusing why)
+no-room-or kind before x why q =
+    ⊎-elim (λ h. inl (rw (← h .1) (room-among kind before (h .0), refl))) inr (unless-refusing (noRoom kind before) x why q)
 
 -- a number that fits where it stands, and one that does not
 pub fits-below : (numbers below i x : ℕ) → namedAt numbers below i x ≡ true → i < numbers → x < below

@@ -4,19 +4,19 @@
 use mathlib.Core.Path.{_≡_, refl, sym, ap₂, _∙_}
 use mathlib.Core.Bool.{Bool, true, false, cond, _&&_}
 use Prim.Native.Nat.{ℕ, _<_}
-use native.Mathlib.Omega.{arith}
 use lib.Dec.{ltb}
 use borrow.Author.Tests.{ltb-true, lt-ltb}
-use Rattle.belnap.proofs.Finite.{both-parts}
+use Rattle.belnap.proofs.Finite.{never, both-parts}
 use Rattle.kinds.specs.declared.Kind.{Kind}
 use Rattle.kinds.specs.declared.Names.{Names}
 use Rattle.kinds.specs.declared.Names.the-variants.{Nothing, Predicates, Rows, Questions}
 use Rattle.entries.specs.declared.Entry.{Entry}
 use Rattle.table.specs.declared.steps.Tally.{Tally}
 use Rattle.entries.specs.Entries.{numbersOf, namesOf, sizeOf, usedBy, uses}
-use Rattle.table.specs.Steps.{limit, namedAt}
+use Rattle.table.specs.Steps.{limit, namedAt, fits}
 use Rattle.entries.specs.Renaming.{rowNumbers, namesRow, renamed}
 use Rattle.entries.proofs.OneEntry.{size}
+use Rattle.table.proofs.Permission.{fits-below}
 use Rattle.table.proofs.Writing.{Sound}
 
 module _ (new : ℕ → ℕ) where
@@ -58,8 +58,7 @@ module _ (new : ℕ → ℕ) where
       (namesRow 1 e ≡ true → e .b < before .rows → new (e .b) < after .rows) → Sound part before e → Sound part after (renamed new e)
   renamed-sound part before after q e f g h =
       let n = numbersOf e in
-      let at = namedAt n (limit (namesOf e) before) in
-      let parts = both-parts (at 0 (e .a)) (at 1 (e .b)) (h .names) in
+      let parts = both-parts (fits e before 0 (e .a)) (fits e before 1 (e .b)) (h .names) in
       record {
         in-part = h .in-part;
         names = ap₂ _&&_ (number-named (namesOf e) n 0 (e .a) before after q f (parts .0)) (number-named (namesOf e) n 1 (e .b) before after q g (parts .1));
@@ -72,17 +71,17 @@ module _ (new : ℕ → ℕ) where
 -- a row that an entry names is one that it may name
 named-below : (names : Names) (n i x : ℕ) (before : Tally) → (rowNumbers names && ltb i n) ≡ true →
     namedAt n (limit names before) i x ≡ true → x < before .rows
-named-below Nothing n i x before e h = absurd (let z : _≡_ {A = ℕ} 0 1 = cc in omega arith)
-named-below Predicates n i x before e h = absurd (let z : _≡_ {A = ℕ} 0 1 = cc in omega arith)
-named-below Rows n i x before e h = ltb-true _ _ (rw e at h)
-named-below Questions n i x before e h = absurd (let z : _≡_ {A = ℕ} 0 1 = cc in omega arith)
+named-below Nothing n i x before e h = never (sym e)
+named-below Predicates n i x before e h = never (sym e)
+named-below Rows n i x before e h = fits-below n (before .rows) i x h (ltb-true i n e)
+named-below Questions n i x before e h = never (sym e)
 
 module _ {part : Kind → Bool} {before : Tally} (e : Entry) (h : Sound part before e) where
-  abbrev at : ℕ → ℕ → Bool
-  at i x = namedAt (numbersOf e) (limit (namesOf e) before) i x
+  both-fit : (fits e before 0 (e .a) ≡ true) × (fits e before 1 (e .b) ≡ true)
+  both-fit = both-parts (fits e before 0 (e .a)) (fits e before 1 (e .b)) (h .names)
 
   pub first-below : namesRow 0 e ≡ true → e .a < before .rows
-  first-below t = named-below (namesOf e) (numbersOf e) 0 (e .a) before t (both-parts (at 0 (e .a)) (at 1 (e .b)) (h .names) .0)
+  first-below t = named-below (namesOf e) (numbersOf e) 0 (e .a) before t (both-fit .0)
 
   pub second-below : namesRow 1 e ≡ true → e .b < before .rows
-  second-below t = named-below (namesOf e) (numbersOf e) 1 (e .b) before t (both-parts (at 0 (e .a)) (at 1 (e .b)) (h .names) .1)
+  second-below t = named-below (namesOf e) (numbersOf e) 1 (e .b) before t (both-fit .1)

@@ -8,7 +8,7 @@ use mathlib.Core.Logic.{⊎-elim}
 use Prim.Native.Nat.{ℕ, suc, _+_, _-_, _≤_, _<_}
 use native.Mathlib.Omega.{arith}
 use lib.ListN.{length, getD, take, drop, length-append, List·getD-append}
-use lib.Seq.{take-append-seam, drop-append-add, getD-append-seam, take-add, drop-cons, getD-take, length-take-le}
+use lib.Seq.{take-append-seam, drop-append-add, getD-append-seam, take-add, getD-take, length-take-le}
 use lib.Dec.{ltb}
 use borrow.Author.Tests.{ltb-true}
 use Rattle.belnap.proofs.Finite.{never}
@@ -29,6 +29,7 @@ use Rattle.entries.proofs.Numbers.{by-order}
 use Rattle.entries.proofs.Saying.{unless-none, unless-some}
 use Rattle.table.proofs.Permission.{misnamed-number, numbers-apart}
 use Rattle.table.proofs.Decoding.{body-cut, body-whole, step-points, points-from, points-within, points-behind}
+use Rattle.table.proofs.Turns.{bytes-from}
 use Rattle.table.proofs.Writing.{Stopped, of-accepted, of-refused, read-past, whole-accepted}
 
 -- how many bytes of its own a refused entry has behind its kind byte
@@ -140,9 +141,6 @@ module _ (s : List ℕ) (n p : ℕ) (w : Speaks s n p) where
   from : w .start ≤ p
   from = points-from s (w .start) (tallyOf (w .before)) n p (w .points)
 
-  split : drop (w .start) s ≡ kind-byte ∷ behind
-  split = let q : w .start + 1 ≡ suc (w .start) = omega arith in rw q (drop-cons s (w .start) 0 (omega (arith, from, w .within)))
-
   pub read-up-to : (more : List ℕ) → reading (take (w .start) s ++ more) ≡ readOn (length more) (w .before) (w .start) more
   read-up-to more =
       let a = of-accepted (take (w .start) s) (w .before) (w .accepted) in
@@ -155,7 +153,8 @@ module _ (s : List ℕ) (n p : ℕ) (w : Speaks s n p) where
   unfolding readOn after
   refused-anyway h more =
       let m = ownBytes (kindOf kind-byte) in
-      let cut : take (w .start + suc m) s ≡ take (w .start) s ++ (kind-byte ∷ take m behind) = take-add (w .start) (suc m) s ∙ rw split in
+      let cut : take (w .start + suc m) s ≡ take (w .start) s ++ (kind-byte ∷ take m behind) =
+      take-add (w .start) (suc m) s ∙ rw (bytes-from s (w .start) (omega (arith, from, w .within))) in
       let place : w .start + (p - w .start) ≡ p = omega (arith, from) in
       rw (cut, append-assoc (take (w .start) s) (kind-byte ∷ take m behind) more)
       (read-up-to (kind-byte ∷ (take m behind ++ more))

@@ -65,6 +65,10 @@ start s t q = record { contents = none; stands = q; inside = omega arith; left =
     sub-zero : (n : ℕ) → n - 0 ≡ n
     sub-zero n = omega arith
 
+-- the bytes from a place on, where one stands
+pub bytes-from : (s : List ℕ) (at : ℕ) → at < length s → drop at s ≡ getD s at 0 ∷ drop (at + 1) s
+bytes-from s at l = rw (add-one at) (drop-cons s at 0 l)
+
 -- one turn, at a place where a byte stands
 module _ (s : List ℕ) (t : Table) (at : ℕ) (h : At s t at) (l : at < length s) where
   abbrev pub here : Said Entry
@@ -78,7 +82,7 @@ module _ (s : List ℕ) (t : Table) (at : ℕ) (h : At s t at) (l : at < length 
   unfolding readOn
   turn =
       let f : length s - at ≡ suc (length s - (at + 1)) = omega arith in
-      rw (tally-is, drop-cons s at 0 l, ← add-one at) (rw (drop-cons s at 0 l, f, ← add-one at) at (h .left))
+      rw (tally-is, bytes-from s at l) (rw (bytes-from s at l, f) at (h .left))
 
   pub bad : (why : Refusal) → here ≡ refusing why → reading s ≡ refusing (refusal (why .number) (at + why .place))
   unfolding after
