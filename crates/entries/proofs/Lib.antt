@@ -2,4 +2,5 @@
 pub mod Numbers
 pub mod OneEntry
 pub mod Saying
+pub mod Sending
 pub mod Unique

@@ -24,9 +24,13 @@ numbersOf e = formOf (e .kind) .numbers
 abbrev pub namesOf : Entry → Names
 namesOf e = formOf (e .kind) .names
 
+-- the numbers that it has
+abbrev pub numbersIn : Entry → List ℕ
+numbersIn e = take (numbersOf e) (e .a ∷ e .b ∷ [])
+
 -- "An entry is one byte of kind, then a body whose length the kind fixes."
 unfoldable pub bytesOf : Entry → List ℕ
-bytesOf e = formOf (e .kind) .byte ∷ take (numbersOf e) (e .a ∷ e .b ∷ [])
+bytesOf e = formOf (e .kind) .byte ∷ numbersIn e
 
 -- how many bytes it has, and at most
 abbrev pub sizeOf : Entry → ℕ

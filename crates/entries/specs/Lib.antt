@@ -1,5 +1,6 @@
--- What the promises of this crate mean: refusals and what a call says, one entry, and rows under new numbers.
+-- What the promises of this crate mean: refusals and what a call says, one entry, rows under new numbers, and what a call writes.
 pub mod Refusals
 pub mod Said
 pub mod Entries
 pub mod Renaming
+pub mod Output

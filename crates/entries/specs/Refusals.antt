@@ -1,4 +1,4 @@
--- The refusals by their numbers (01, "When we say no").
+-- The refusals by their numbers (01, "When we say no"; 02, L2).
 use Prim.Native.Nat.{ℕ}
 use mathlib.Core.Bool.{Bool, false, cond, _||_}
 use mathlib.Core.List.{List, [], _∷_}
@@ -48,6 +48,14 @@ badMask = 10
 abbrev pub outputTooShort : ℕ
 outputTooShort = 11
 
+-- "unknown word or a number above 255" (02, L2)
+abbrev pub unknownWord : ℕ
+unknownWord = 12
+
+-- "any other spelling"
+abbrev pub misspelt : ℕ
+misspelt = 13
+
 -- 8 where what was asked for is missing; 0 where it is there
 abbrev pub ifMissing : Bool → ℕ
 ifMissing missing = cond missing notThere 0
@@ -59,6 +67,13 @@ atKindByte = unlisted ∷ rowAfterQuestion ∷ tooManyRows ∷ tooManyQuestions 
 
 abbrev pub atNumber : List ℕ
 atNumber = predicateTooHigh ∷ notToBeNamed ∷ []
+
+-- those that an entry with a whole body may bring, and those of a text's spelling
+abbrev pub ofEntries : List ℕ
+ofEntries = rowAfterQuestion ∷ tooManyRows ∷ tooManyQuestions ∷ atNumber
+
+abbrev pub ofSpelling : List ℕ
+ofSpelling = unknownWord ∷ misspelt ∷ []
 
 -- whether a number stands in a list
 abbrev pub isAmong : List ℕ → ℕ → Bool

@@ -15,6 +15,9 @@ pub struct Entry {
     pub b: u8,
 }
 
+// How many bytes an entry has at most.
+pub const LONGEST: usize = 3;
+
 // How many numbers one byte can be.
 pub const NUMBERS: usize = 256;
 

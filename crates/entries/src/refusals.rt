@@ -1,4 +1,4 @@
-// The refusals by their numbers (01, "When we say no"), and a refusal with its place.
+// The refusals by their numbers (01, "When we say no"; 02, L2), a refusal with its place, and what a call that writes answers.
 ghost use mathlib.Core.Path.{_≡_};
 ghost use Rattle.entries.specs.Said.{refusal};
 
@@ -24,6 +24,10 @@ pub const BAD_MASK: u8 = 10;
 
 pub const OUTPUT_TOO_SHORT: u8 = 11;
 
+pub const UNKNOWN_WORD: u8 = 12;
+
+pub const MISSPELT: u8 = 13;
+
 // A refusal: its number and its place.
 pub struct Refusal {
     pub number: u8,
@@ -37,4 +41,10 @@ impl Refusal {
     {
         Refusal { number, place: 0 }
     }
+}
+
+// How many bytes were written over the front of a lent output, or a refusal.
+pub enum Output {
+    Written(usize),
+    Refused(Refusal),
 }

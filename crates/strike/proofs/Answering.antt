@@ -15,22 +15,24 @@ use Rattle.entries.specs.Refusals.{notThere, stillNamed, outputTooShort}
 use Rattle.entries.specs.Said.{Said, answered, refusing, refusal}
 use Rattle.entries.specs.Entries.{blank, sizeOf}
 use Rattle.table.specs.Contents.{Contents, written, encoded}
-use Rattle.table.specs.Reading.{reading, tableOf, contentsIn}
+use Rattle.table.specs.Reading.{reading, tableOf, contentsIn, Fits}
 use Rattle.table.proofs.Writing.{of-accepted}
 use Rattle.table.proofs.Opening.{Opened}
-use Rattle.strike.specs.Strike.{struckBytes, missing, inUse, tooShort, strikeRefusal, struckAnswer, shownStruck, outputBy, struckOutput, Fits}
+use Rattle.strike.specs.Strike.{struckBytes, missing, inUse, tooShort, strikeRefusal, struckAnswer, outputBy, struckOutput}
 use Rattle.strike.proofs.Closing.{closed-bytes}
 use Rattle.strike.proofs.Laws.{output-of}
-use Rattle.strike.proofs.Filling.{table-fits, contents-back, held, struck-held, held-length, held-row}
+use Rattle.entries.specs.Output.{shownOutput}
+use Rattle.table.proofs.Held.{table-fits, contents-back, held, held-length, held-row}
+use Rattle.strike.proofs.Filling.{struck-held}
 
 -- an answer and an output, as the promise has them
 abbrev pub Answers : List ℕ → ℕ → List ℕ → Said ℕ → List ℕ → Type 0
-Answers s r out a u = (shownStruck a ≡ shownStruck (struckAnswer (reading s) r (length out))) × (u ≡ struckOutput (reading s) r out)
+Answers s r out a u = (shownOutput a ≡ shownOutput (struckAnswer (reading s) r (length out))) × (u ≡ struckOutput (reading s) r out)
 
 answers : (s : List ℕ) (r : ℕ) (out : List ℕ) (c : Contents) (a : Said ℕ) → reading s ≡ answered c →
     struckAnswer (answered c) r (length out) ≡ a → Answers s r out a (outputBy a (struckBytes r c) out)
 answers s r out c a q h = (
-  ap shownStruck (sym (ap (λ (x : Said Contents). struckAnswer x r (length out)) q ∙ h)),
+  ap shownOutput (sym (ap (λ (x : Said Contents). struckAnswer x r (length out)) q ∙ h)),
   sym (ap (λ (x : Said Contents). struckOutput x r out) q ∙ output-of c r out a h),
 )
 
@@ -38,7 +40,7 @@ answers s r out c a q h = (
 pub turned-answers : (s : List ℕ) (r : ℕ) (out : List ℕ) (why : Refusal) → reading s ≡ refusing why → Answers s r out (refusing why) out
 unfolding struckAnswer struckOutput
 turned-answers s r out why q = (
-  ap shownStruck (sym (ap (λ (x : Said Contents). struckAnswer x r (length out)) q)),
+  ap shownOutput (sym (ap (λ (x : Said Contents). struckAnswer x r (length out)) q)),
   sym (ap (λ (x : Said Contents). struckOutput x r out) q),
 )
 

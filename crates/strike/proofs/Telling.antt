@@ -14,8 +14,7 @@ use Rattle.entries.specs.Said.{Said, answered, refusing, unless}
 use Rattle.table.specs.Contents.{Contents, entries}
 use Rattle.table.specs.Reading.{reading}
 use Rattle.entries.proofs.Saying.{not-both, unless-answered}
-use Rattle.strike.specs.declared.Struck.the-variants.{Written, Refused}
-use Rattle.strike.specs.Strike.{struck, struckBytes, namedBy, missing, inUse, tooShort, strikeRefusal, struckAnswer, shownStruck, struckOutput}
+use Rattle.strike.specs.Strike.{struck, struckBytes, namedBy, missing, inUse, tooShort, strikeRefusal, struckAnswer, struckOutput}
 use Rattle.strike.proofs.Laws.{struck-accepted, output-of}
 
 -- what a length that comes back tells
@@ -78,14 +77,3 @@ struck-read s r out n a =
           (d .unnamed),
       ap (drop n) o ∙ drop-at bytes (drop n out) n (sym (d .count)),
     )
-
--- what was said, from the answer that shows it
-pub written-of : (x : Said ℕ) (n : ℕ) → shownStruck x ≡ Written n → x ≡ answered n
-unfolding shownStruck
-written-of (answered m) n q = cc
-written-of (refusing why) n q = absurd (let z : _≡_ {A = ℕ} 0 1 = cc in omega arith)
-
-pub refused-of : (x : Said ℕ) (why : Refusal) → shownStruck x ≡ Refused why → x ≡ refusing why
-unfolding shownStruck
-refused-of (answered m) why q = absurd (let z : _≡_ {A = ℕ} 0 1 = cc in omega arith)
-refused-of (refusing other) why q = cc

@@ -1,18 +1,14 @@
 -- Striking a row (01, "Taking one entry, and striking a row" and "When we say no").
-use Prim.Native.Nat.{ℕ, zero, suc, _-_, _≤_}
+use Prim.Native.Nat.{ℕ, zero, suc, _-_}
 use mathlib.Core.Bool.{Bool, false, cond, _&&_, _||_}
 use mathlib.Core.List.{List, [], _∷_, _++_, map}
 use lib.ListN.{length, drop}
 use lib.Dec.{leb, ltb, eqb}
 use Rattle.entries.specs.declared.Entry.{Entry}
-use Rattle.table.specs.declared.Table.{Table}
 use Rattle.entries.specs.Refusals.{stillNamed, outputTooShort, ifMissing}
 use Rattle.entries.specs.Said.{Said, answered, refusing, andThen, unless}
-use Rattle.table.specs.Steps.{rowLimit, questionLimit}
 use Rattle.table.specs.Contents.{Contents, entries, encoded}
 use Rattle.entries.specs.Renaming.{namesRow, renamed}
-use Rattle.strike.specs.declared.Struck.{Struck}
-use Rattle.strike.specs.declared.Struck.the-variants.{Written, Refused}
 
 -- "each row number above r lowered by one"
 unfoldable pub lower : ℕ → ℕ → ℕ
@@ -74,10 +70,6 @@ struckAnswer x r room =
     andThen x (λ c.
     unless (ifMissing (missing r c)) (unless (strikeRefusal (inUse r c) (tooShort room r c)) (answered (length (struckBytes r c)))))
 
-unfoldable pub shownStruck : Said ℕ → Struck
-shownStruck (answered n) = Written n
-shownStruck (refusing why) = Refused why
-
 -- "bytes behind the last stay"; "a refusal changes no lent byte"
 abbrev pub outputBy : Said ℕ → List ℕ → List ℕ → List ℕ
 outputBy (answered n) bytes out = bytes ++ drop n out
@@ -86,10 +78,3 @@ outputBy (refusing why) bytes out = out
 unfoldable pub struckOutput : Said Contents → ℕ → List ℕ → List ℕ
 struckOutput (answered c) r out = outputBy (struckAnswer (answered c) r (length out)) (struckBytes r c) out
 struckOutput (refusing why) r out = out
-
--- the counts of a table's struct fit its arrays
-pub record Fits (t : Table) : Type 0 where
-  pub used-fit : t .tally .rows ≤ rowLimit
-  pub rows-there : rowLimit ≤ length (t .rows)
-  pub asked-fit : t .tally .questions ≤ questionLimit
-  pub questions-there : questionLimit ≤ length (t .questions)

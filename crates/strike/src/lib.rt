@@ -1,6 +1,7 @@
 // Striking a row: the table without it, written into a second lent buffer, or a refusal that changes nothing.
 use entries::Entry;
 use entries::refusals;
+use entries::refusals::Output;
 use entries::refusals::Refusal;
 use table::Outcome;
 use table::Table;
@@ -9,14 +10,9 @@ ghost use mathlib.Core.Bool.{cond};
 ghost use mathlib.Core.List.{_++_};
 ghost use Prim.Native.Nat.{_≤_, _<_};
 ghost use lib.ListN.{length, drop};
-ghost use Rattle.table.specs.Reading.{reading, contentsIn};
-ghost use Rattle.strike.specs.Strike.{lower, lowered, names, struckBytes, inUse, strikeRefusal, struckAnswer, shownStruck, struckOutput, Fits};
-
-// How many bytes were written, or a refusal.
-pub enum Struck {
-    Written(usize),
-    Refused(Refusal),
-}
+ghost use Rattle.entries.specs.Output.{shownOutput};
+ghost use Rattle.table.specs.Reading.{reading, contentsIn, Fits};
+ghost use Rattle.strike.specs.Strike.{lower, lowered, names, struckBytes, inUse, strikeRefusal, struckAnswer, struckOutput};
 
 // A number above r, lowered by one.
 fn lower_of(r: usize, x: u8) -> u8
@@ -109,26 +105,26 @@ fn strike_refusal(named: bool, short: bool) -> u8
 }
 
 // The table without row `row`, over the front of the output; nothing is written before every refusal is ruled out.
-pub fn strike(table: &[u8], row: u32, out: &mut [u8]) -> Struck
-    ensures answer { λ r. ⌜ r ≡ shownStruck (struckAnswer (reading (now (table .entry))) row (length (now (out .entry)))) ⌝ }
+pub fn strike(table: &[u8], row: u32, out: &mut [u8]) -> Output
+    ensures answer { λ r. ⌜ r ≡ shownOutput (struckAnswer (reading (now (table .entry))) row (length (now (out .entry)))) ⌝ }
     ensures output { λ r. ⌜ now (out .exit) ≡ struckOutput (reading (now (table .entry))) row (now (out .entry)) ⌝ }
 {
     let got = table::read(table);
     let outcome = got.outcome;
     let Outcome::Read = outcome else {
         let why = got.why;
-        return Struck::Refused(why);
+        return Output::Refused(why);
     };
     let t = got.table;
     let r = row as usize;
     if t.tally.rows <= r {
-        return Struck::Refused(Refusal::of(refusals::NOT_THERE));
+        return Output::Refused(Refusal::of(refusals::NOT_THERE));
     }
     let e = t.rows[r];
     let length = table.len() - entries::size_of(e);
     let why = strike_refusal(named(t, r), out.len() < length);
     if why != 0 {
-        return Struck::Refused(Refusal::of(why));
+        return Output::Refused(Refusal::of(why));
     }
-    Struck::Written(write(t, r, out))
+    Output::Written(write(t, r, out))
 }

@@ -1,6 +1,6 @@
 -- What a kind byte and the bytes behind it are decoded to, and what a step says of them.
 -- Assumes nothing.
-use mathlib.Core.Path.{_≡_, refl, sym, _∙_}
+use mathlib.Core.Path.{_≡_, refl, sym, ap, _∙_}
 use mathlib.Core.Bool.{Bool, true, false}
 use mathlib.Core.List.{List, _∷_, _++_}
 use mathlib.Core.Logic.{inl, inr, ⊎-elim}
@@ -19,6 +19,7 @@ use Rattle.table.specs.declared.steps.Tally.{Tally}
 use Rattle.table.specs.declared.steps.Decoded.{Decoded}
 use Rattle.table.specs.declared.steps.Decoded.the-variants.{Unknown, Cut, Full}
 use Rattle.table.specs.declared.steps.Step.the-variants.{Took, Bad}
+use Rattle.table.specs.declared.steps.Entered.the-variants.{In, Out}
 use Rattle.entries.specs.declared.refusals.Refusal.{Refusal}
 use Rattle.entries.specs.Refusals.{unlisted, cutShort}
 use Rattle.entries.specs.Said.{Said, answered, refusing, refusal}
@@ -26,6 +27,7 @@ use Rattle.kinds.specs.Kinds.{kindOf, formOf}
 use Rattle.entries.specs.Entries.{numbersOf, namesOf}
 use Rattle.table.specs.Steps.{numberAt, numberPlace, entryOf, bodyOf, decodedBy, decoded}
 use Rattle.table.specs.Steps.{noRoom, limit, fits, firstUnfit, offending, misnamed, misnaming, permitted, judged, stepOf, shownStep}
+use Rattle.table.specs.Steps.{oneMore, shownEntered}
 use Rattle.table.specs.Places.{Misnames, Points}
 use Rattle.kinds.proofs.KindTable.{byte-of-kind, kind-of-byte}
 use Rattle.entries.proofs.Saying.{not-both, unless-answered}
@@ -165,3 +167,22 @@ pub turned-away : (x : Said Entry) (why : Refusal) → shownStep x ≡ Bad why �
 unfolding shownStep
 turned-away (answered f) why q = absurd (let z : _≡_ {A = ℕ} 0 1 = cc in omega arith)
 turned-away (refusing other) why q = cc
+
+-- an entry that entered, and one that was kept out
+pub entered : (e : Entry) (before more : Tally) → shownEntered before (permitted e before) ≡ In more →
+    (permitted e before ≡ answered e) × (more ≡ oneMore (e .kind) before)
+unfolding shownEntered
+entered e before more q = go (permitted e before) refl q
+  where
+    go : (x : Said Entry) → permitted e before ≡ x → shownEntered before x ≡ In more → (permitted e before ≡ answered e) × (more
+        ≡ oneMore (e .kind) before)
+    go (answered f) p q =
+        let one = allowed-if e f before p .0 in
+        let same : oneMore (f .kind) before ≡ more = cc in
+        (p ∙ ap answered (sym one), sym same ∙ ap (λ (e : Entry). oneMore (e .kind) before) (sym one))
+    go (refusing why) p q = absurd (let z : _≡_ {A = ℕ} 0 1 = cc in omega arith)
+
+pub kept-out : (x : Said Entry) (before : Tally) (why : Refusal) → shownEntered before x ≡ Out why → x ≡ refusing why
+unfolding shownEntered
+kept-out (answered f) before why q = absurd (let z : _≡_ {A = ℕ} 0 1 = cc in omega arith)
+kept-out (refusing other) before why q = cc

@@ -18,10 +18,10 @@ use Rattle.kinds.specs.declared.Names.the-variants.{Nothing, Predicates, Rows, 
 use Rattle.entries.specs.declared.Entry.{Entry}
 use Rattle.table.specs.declared.steps.Tally.{Tally}
 use Rattle.entries.specs.declared.refusals.Refusal.{Refusal}
-use Rattle.entries.specs.Refusals.{predicateTooHigh, notToBeNamed, rowAfterQuestion, tooManyRows, tooManyQuestions, atKindByte, atNumber, isAmong}
+use Rattle.entries.specs.Refusals.{predicateTooHigh, notToBeNamed, rowAfterQuestion, tooManyRows, tooManyQuestions, atKindByte, atNumber, ofEntries, isAmong}
 use Rattle.entries.specs.Said.{Said, answered, refusing, refusal, unless}
-use Rattle.entries.specs.Entries.{namesOf}
-use Rattle.table.specs.Steps.{rowLimit, questionLimit, numberPlace, noRoom, namedAt, fits, firstUnfit, offending, misnamed, misnaming, permitted}
+use Rattle.entries.specs.Entries.{numbersOf, namesOf}
+use Rattle.table.specs.Steps.{rowLimit, questionLimit, numberPlace, noRoom, limit, namedAt, fits, firstUnfit, offending, misnamed, misnaming, permitted}
 use Rattle.table.specs.Whole.{named}
 use Rattle.entries.proofs.Numbers.{by-order}
 use Rattle.entries.proofs.Saying.{not-both, unless-none, unless-answered, unless-refusing}
@@ -167,3 +167,51 @@ unfit-there numbers below i x h = go (ltb i numbers) refl h
     go : (there : Bool) → ltb i numbers ≡ there → cond there (ltb x below) true ≡ false → (i < numbers) × (below ≤ x)
     go true l h = (ltb-true i numbers l, ltb-false x below h)
     go false l h = never h
+
+-- an entry that is whole is refused with 3 to 7 alone
+room-own : (kind : Kind) (before : Tally) → (noRoom kind before ≡ 0 → ⊥) → isAmong ofEntries (noRoom kind before) ≡ true
+unfolding noRoom
+room-own (Row k) before h = go (ltb 0 (before .questions)) (ltb (before .rows) rowLimit) h
+  where
+    go : (p q : Bool) → (_≡_ {A = ℕ} (cond p rowAfterQuestion (cond q 0 tooManyRows)) 0 → ⊥) →
+        isAmong ofEntries (cond p rowAfterQuestion (cond q 0 tooManyRows)) ≡ true
+    go true q h = refl
+    go false true h = absurd (h refl)
+    go false false h = refl
+room-own (Question k) before h = go (ltb (before .questions) questionLimit) h
+  where
+    go : (p : Bool) → (_≡_ {A = ℕ} (cond p 0 tooManyQuestions) 0 → ⊥) → isAmong ofEntries (cond p 0 tooManyQuestions) ≡ true
+    go true h = absurd (h refl)
+    go false h = refl
+
+misnamed-own : (names : Names) → isAmong ofEntries (misnamed names) ≡ true
+misnamed-own Nothing = refl
+misnamed-own Predicates = refl
+misnamed-own Rows = refl
+misnamed-own Questions = refl
+
+pub permitted-own : (e : Entry) (before : Tally) (why : Refusal) → permitted e before ≡ refusing why → isAmong ofEntries (why .number) ≡ true
+unfolding permitted
+permitted-own e before why q =
+    ⊎-elim
+    (λ h. rw (← h .1) (room-own (e .kind) before (h .0)))
+    (λ h. rw (← misnaming-refusing e (offending e before) why h .1) (misnamed-own (namesOf e)))
+    (unless-refusing (noRoom (e .kind) before) (misnaming e (offending e before)) why q)
+
+-- a refusal at an entry points into it
+offending-inside : (e : Entry) (before : Tally) → offending e before ≤ numbersOf e
+unfolding offending
+offending-inside e before = go (fits e before 0 (e .a)) refl (fits e before 1 (e .b)) refl
+  where
+    go : (p : Bool) → fits e before 0 (e .a) ≡ p → (q : Bool) → fits e before 1 (e .b) ≡ q → firstUnfit p q ≤ numbersOf e
+    go true a true b = omega arith
+    go true a false b = omega (arith, unfit-there (numbersOf e) (limit (namesOf e) before) 1 (e .b) b .0)
+    go false a q b = omega (arith, unfit-there (numbersOf e) (limit (namesOf e) before) 0 (e .a) a .0)
+
+pub refused-inside : (e : Entry) (before : Tally) (why : Refusal) → permitted e before ≡ refusing why → why .place ≤ numbersOf e
+unfolding permitted
+refused-inside e before why q =
+    ⊎-elim
+    (λ h. rw (← h .1) (omega arith))
+    (λ h. rw (← misnaming-refusing e (offending e before) why h .1) (offending-inside e before))
+    (unless-refusing (noRoom (e .kind) before) (misnaming e (offending e before)) why q)

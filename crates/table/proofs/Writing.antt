@@ -16,7 +16,7 @@ use Rattle.table.specs.declared.steps.Tally.{Tally}
 use Rattle.entries.specs.Said.{Said, answered, refusing, refusal}
 use Rattle.kinds.specs.Kinds.{formOf, isRow, isQuestion, asRow, asQuestion}
 use Rattle.entries.specs.Entries.{numbersOf, sizeOf, bytesOf}
-use Rattle.table.specs.Steps.{tally, rowLimit, questionLimit, numberAt, decoded, judged, stepOf}
+use Rattle.table.specs.Steps.{tally, rowLimit, questionLimit, numberAt, decoded, permitted, judged, stepOf}
 use Rattle.table.specs.Contents.{Contents, none, tallyOf, withKind, withEntry, entries, written, encoded}
 use Rattle.table.specs.Reading.{after, readOn, reading}
 pub use Rattle.table.specs.Whole.{Tidy, Sound, Each, Whole, RowAt, QuestionAt}
@@ -46,7 +46,7 @@ each-more P i [] x h p = (let q : i + 0 ≡ i = omega arith in rw q at p, tt)
 each-more P i (y ∷ l) x h p = (h .0, each-more P (suc i) l x (h .1) (let q : suc i + length l ≡ i + suc (length l) = omega arith in rw q p))
 
 -- the bytes of an entry that was read are those that it was read from
-front-of : (n a b : ℕ) (body : List ℕ) → n < 3 → n ≤ length body → a ≡ numberAt n 0 body → b ≡ numberAt n 1 body →
+pub front-of : (n a b : ℕ) (body : List ℕ) → n < 3 → n ≤ length body → a ≡ numberAt n 0 body → b ≡ numberAt n 1 body →
     take n (a ∷ b ∷ []) ≡ take n body
 front-of zero a b body h w p q = refl
 front-of (suc zero) a b [] h w p q = absurd (omega arith)
@@ -56,7 +56,7 @@ front-of (suc (suc zero)) a b (x ∷ []) h w p q = absurd (omega arith)
 front-of (suc (suc zero)) a b (x ∷ y ∷ body) h w p q = ap₂ (λ (a b : ℕ). a ∷ b ∷ []) p q
 front-of (suc (suc (suc n))) a b body h w p q = absurd (omega arith)
 
-trim : (t : Bool) (a x : ℕ) → a ≡ cond t x 0 → a ≡ cond t a 0
+pub trim : (t : Bool) (a x : ℕ) → a ≡ cond t x 0 → a ≡ cond t a 0
 trim true a x e = refl
 trim false a x e = e
 
@@ -74,7 +74,7 @@ module _ (k : ℕ) (body : List ℕ) (e : Entry) (t : Decodes k body e) where
   }
 
 -- the step that an entry's own bytes bring
-number-front : (n a b : ℕ) (s : List ℕ) → n < 3 →
+pub number-front : (n a b : ℕ) (s : List ℕ) → n < 3 →
     (numberAt n 0 (take n (a ∷ b ∷ []) ++ s) ≡ numberAt n 0 (a ∷ b ∷ []))
     × (numberAt n 1 (take n (a ∷ b ∷ []) ++ s) ≡ numberAt n 1 (a ∷ b ∷ []))
 number-front zero a b s h = (refl, refl)
@@ -82,17 +82,21 @@ number-front (suc zero) a b s h = (refl, refl)
 number-front (suc (suc zero)) a b s h = (refl, refl)
 number-front (suc (suc (suc n))) a b s h = absurd (omega arith)
 
-pub own-step : (e : Entry) (s : List ℕ) (before : Tally) → Allowed before e → Tidy e →
-    stepOf (formOf (e .kind) .byte) (take (numbersOf e) (e .a ∷ e .b ∷ []) ++ s) before ≡ answered e
+pub own-judged : (e : Entry) (s : List ℕ) (before : Tally) → Tidy e →
+    stepOf (formOf (e .kind) .byte) (take (numbersOf e) (e .a ∷ e .b ∷ []) ++ s) before ≡ permitted e before
 unfolding stepOf decoded judged
-own-step e s before h t =
+own-judged e s before t =
     let body = take (numbersOf e) (e .a ∷ e .b ∷ []) ++ s in
     let n = number-front (numbersOf e) (e .a) (e .b) s (few (e .kind)) in
     let p : numberAt (numbersOf e) 0 body ≡ e .a = n .0 ∙ sym (t .first) in
     let q : numberAt (numbersOf e) 1 body ≡ e .b = n .1 ∙ sym (t .second) in
     let w : numbersOf e ≤ length body =
     rw (length-append (take (numbersOf e) (e .a ∷ e .b ∷ [])) s) (omega (arith, length-front (numbersOf e) (e .a) (e .b) (few (e .kind)))) in
-    rw (kind-of-byte (e .kind), body-whole (e .kind) body w, p, q) (permitted-if e before h)
+    rw (kind-of-byte (e .kind), body-whole (e .kind) body w, p, q)
+
+own-step : (e : Entry) (s : List ℕ) (before : Tally) → Allowed before e → Tidy e →
+    stepOf (formOf (e .kind) .byte) (take (numbersOf e) (e .a ∷ e .b ∷ []) ++ s) before ≡ answered e
+own-step e s before h t = own-judged e s before t ∙ permitted-if e before h
 
 -- entries written one after the other
 pub written-append : (es fs : List Entry) → written (es ++ fs) ≡ written es ++ written fs
@@ -109,12 +113,12 @@ none-of : {A : Type 0} (l : List A) → length l ≡ 0 → l ≡ []
 none-of [] h = refl
 none-of (x ∷ l) h = absurd (omega arith)
 
--- an entry that is read keeps a table whole, and stands behind the other entries
-module _ (k : ℕ) (body : List ℕ) (c : Contents) (w : Whole c) (e : Entry) (t : Decodes k body e) (a : Allowed (tallyOf c) e) where
+-- an entry that is allowed keeps a table whole, and stands behind the other entries
+module _ (c : Contents) (w : Whole c) (e : Entry) (t : Tidy e) (a : Allowed (tallyOf c) e) where
   sound : (part : Kind → Bool) (before : Tally) → part (e .kind) ≡ true → tallyOf c ≡ before → Sound part before e
-  sound part before p q = record { in-part = p; names = rw q at (a .names); tidy = decoded-tidy k body e t }
+  sound part before p q = record { in-part = p; names = rw q at (a .names); tidy = t }
 
-  with-whole : (kind : Kind) → e .kind ≡ kind → Whole (withKind kind e c)
+  pub with-whole : (kind : Kind) → e .kind ≡ kind → Whole (withKind kind e c)
   with-whole (Row r) p =
       let room = room-of (Row r) (tallyOf c) (rw p at (a .room)) in
       let before : tallyOf c ≡ tally (0 + length (c .rows)) 0 =
@@ -137,18 +141,18 @@ module _ (k : ℕ) (body : List ℕ) (c : Contents) (w : Whole c) (e : Entry) (t
             (sound isQuestion (tally (length (c .rows)) (0 + length (c .questions))) (rw p) before);
       }
 
-  with-entries : (kind : Kind) → e .kind ≡ kind → entries (withKind kind e c) ≡ entries c ++ (e ∷ [])
+  pub with-entries : (kind : Kind) → e .kind ≡ kind → entries (withKind kind e c) ≡ entries c ++ (e ∷ [])
   with-entries (Row r) p =
       let empty = none-of (c .questions) (room-of (Row r) (tallyOf c) (rw p at (a .room)) .1) in
       rw (empty, append-nil (c .rows ++ (e ∷ [])), append-nil (c .rows))
   with-entries (Question q) p = sym (append-assoc (c .rows) (c .questions) (e ∷ []))
 
-  -- what is written so far, with the bytes that are left
-  with-bytes : encoded (withEntry c e) ++ drop (sizeOf e) (k ∷ body) ≡ encoded c ++ (k ∷ body)
-  with-bytes = rw (with-entries (e .kind) refl, written-more (entries c) e, append-assoc, decoded-bytes k body e t)
-
   with-place : (at : ℕ) → at ≡ length (encoded c) → at + sizeOf e ≡ length (encoded (withEntry c e))
   with-place at p = rw (with-entries (e .kind) refl, written-more (entries c) e, length-append (encoded c) (bytesOf e)) (omega arith)
+
+  -- what is written so far, with the bytes that are left
+  with-bytes : (k : ℕ) (body : List ℕ) → Decodes k body e → encoded (withEntry c e) ++ drop (sizeOf e) (k ∷ body) ≡ encoded c ++ (k ∷ body)
+  with-bytes k body d = rw (with-entries (e .kind) refl, written-more (entries c) e, append-assoc, decoded-bytes k body e d)
 
 -- how reading ends, from a table and the bytes that are left: at an entry whose step refuses
 pub record Stopped (c : Contents) (s : List ℕ) (why : Refusal) : Type 0 where
@@ -184,14 +188,15 @@ came (suc f) c at (k ∷ s) h p w =
         (readOn f d (at + sizeOf e) (drop (sizeOf e) (k ∷ s)))) →
         Came c (k ∷ s) (after x c at (λ size d. readOn f d (at + size) (drop size (k ∷ s))))
     go (answered e) q on =
-        let t = step-took k s (tallyOf c) e q in
-        came-from c (withEntry c e) (k ∷ s) (drop (sizeOf e) (k ∷ s)) (with-bytes k s c w e (t .0) (t .1))
+        let took = step-took k s (tallyOf c) e q in
+        let t = decoded-tidy k s e (took .0) in
+        came-from c (withEntry c e) (k ∷ s) (drop (sizeOf e) (k ∷ s)) (with-bytes c w e t (took .1) k s (took .0))
         (readOn f (withEntry c e) (at + sizeOf e) (drop (sizeOf e) (k ∷ s)))
-        (on (withEntry c e) e (with-place k s c w e (t .0) (t .1) at p) (with-whole k s c w e (t .0) (t .1) (e .kind) refl))
+        (on (withEntry c e) e (with-place c w e t (took .1) at p) (with-whole c w e t (took .1) (e .kind) refl))
     go (refusing why) q on = record { before = c; whole = w; kind = k; rest = s; bytes = refl; here = why; bad = q; is = rw p }
 
 -- the empty table is whole
-none-whole : Whole none
+pub none-whole : Whole none
 none-whole = record { rows-fit = omega arith; questions-fit = omega arith; rows-sound = tt; questions-sound = tt }
 
 read-came : (s : List ℕ) → Came none s (reading s)

@@ -1,5 +1,5 @@
 -- A table as it is read, entry by entry from the front (01, "The table, byte by byte" and "When we say no").
-use Prim.Native.Nat.{ℕ, zero, suc, _+_, _-_}
+use Prim.Native.Nat.{ℕ, zero, suc, _+_, _-_, _≤_}
 use mathlib.Core.List.{List, [], _∷_, _++_}
 use lib.ListN.{length, take, drop, replicate}
 use Rattle.entries.specs.declared.Entry.{Entry}
@@ -43,6 +43,13 @@ tableOf c = record {
 -- the contents that a struct holds
 abbrev pub contentsIn : Table → Contents
 contentsIn t = record { rows = take (t .tally .rows) (t .rows); questions = take (t .tally .questions) (t .questions) }
+
+-- the counts of a table's struct fit its arrays
+pub record Fits (t : Table) : Type 0 where
+  pub used-fit : t .tally .rows ≤ rowLimit
+  pub rows-there : rowLimit ≤ length (t .rows)
+  pub asked-fit : t .tally .questions ≤ questionLimit
+  pub questions-there : questionLimit ≤ length (t .questions)
 
 -- what reading shows: the table, or the refusal beside an empty table
 abbrev pub outcomeOf : Said Contents → Outcome

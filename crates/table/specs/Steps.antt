@@ -17,6 +17,8 @@ use Rattle.table.specs.declared.steps.Decoded.{Decoded}
 use Rattle.table.specs.declared.steps.Decoded.the-variants.{Unknown, Cut, Full}
 use Rattle.table.specs.declared.steps.Step.{Step}
 use Rattle.table.specs.declared.steps.Step.the-variants.{Took, Bad}
+use Rattle.table.specs.declared.steps.Entered.{Entered}
+use Rattle.table.specs.declared.steps.Entered.the-variants.{In, Out}
 use Rattle.entries.specs.Refusals.{unlisted, cutShort, predicateTooHigh, notToBeNamed, rowAfterQuestion, tooManyRows, tooManyQuestions}
 use Rattle.entries.specs.Said.{Said, answered, refusing, refusal, unless}
 use Rattle.kinds.specs.Kinds.{kindOf, formOf}
@@ -122,3 +124,8 @@ stepOf k body before = judged (decoded k body) before
 unfoldable pub shownStep : Said Entry → Step
 shownStep (answered e) = Took e
 shownStep (refusing why) = Bad why
+
+-- so many rows and questions with the entry that may stand behind them
+unfoldable pub shownEntered : Tally → Said Entry → Entered
+shownEntered before (answered e) = In (oneMore (e .kind) before)
+shownEntered before (refusing why) = Out why

@@ -11,7 +11,7 @@ ghost use Prim.Native.Nat.{_+_, _<_};
 ghost use lib.ListN.{length, getD, drop};
 ghost use Rattle.entries.specs.Said.{refusal};
 ghost use Rattle.table.specs.Steps.{oneMore, noRoom, limit, misnamed, numberAt, numberPlace, namedAt, offending};
-ghost use Rattle.table.specs.Steps.{bodyOf, decoded, permitted, judged, stepOf, shownStep};
+ghost use Rattle.table.specs.Steps.{bodyOf, decoded, permitted, judged, stepOf, shownStep, shownEntered};
 
 // So many rows and questions.
 pub struct Tally {
@@ -30,6 +30,12 @@ pub enum Decoded {
 pub enum Step {
     Took(Entry),
     Bad(Refusal),
+}
+
+// So many rows and questions with an entry more, or why it may not stand behind them.
+pub enum Entered {
+    In(Tally),
+    Out(Refusal),
 }
 
 // So many rows and questions with an entry of a kind more, for which there is room.
@@ -224,5 +230,19 @@ pub(crate) fn step_at(s: &[u8], at: usize, before: Tally) -> Step
         Decoded::Unknown => bad(refusals::UNLISTED, 0),
         Decoded::Cut(kind) => cut_short(kind, before),
         Decoded::Full(e) => permit(e, before),
+    }
+}
+
+// An entry behind so many rows and questions.
+pub fn enter(e: Entry, before: Tally) -> Entered
+    ensures { λ r. ⌜ r ≡ shownEntered before (permitted e before) ⌝ }
+{
+    let step = permit(e, before);
+    match step {
+        Step::Took(_) => {
+            let kind = e.kind;
+            Entered::In(one_more(kind, before))
+        }
+        Step::Bad(why) => Entered::Out(why),
     }
 }

@@ -7,7 +7,7 @@ use lib.ListN.{length, take}
 use lib.Seq.{take-length}
 use Rattle.strike.specs.Strike.{names, namedBy}
 use Rattle.strike.proofs.Closing.{named-some, named-more}
-use Rattle.strike.proofs.Filling.{held, held-length, held-at}
+use Rattle.table.proofs.Held.{held, held-length, held-at}
 use borrow.Author.Needs.{needs}
 use Rattle.strike.proofs.named.Statement.{statement}
 use Rattle.strike.proofs.named.Tie as tie

@@ -9,7 +9,8 @@ use borrow.Author.Tests.{ltb-false}
 use Rattle.entries.specs.Entries.{blank, sizeOf}
 use Rattle.table.specs.Reading.{contentsIn}
 use Rattle.table.proofs.Opening.{Opened, opened, turned}
-use Rattle.strike.specs.Strike.{struckBytes, shownStruck}
+use Rattle.entries.specs.Output.{shownOutput}
+use Rattle.strike.specs.Strike.{struckBytes}
 use Rattle.strike.proofs.Telling.{unstopped}
 use Rattle.strike.proofs.Answering.{turned-answers, open-fits, missing-answers, bytes-left, stopped-answers, written-answers}
 use borrow.Author.Needs.{needs}
@@ -49,7 +50,7 @@ none-due c =
     (none .0, ltb-false (length (start .out .now)) (length (start .table .now) - size .size-of .result) (none .1))
 
 returns : tie.Need-returns
-unfolding shownStruck
+unfolding shownOutput
 returns c =
     let told = c .before in
     let got = told .before .before in
@@ -58,7 +59,7 @@ returns c =
     (turned (start .table .now) (got .read .result) (got .read .ensures) (told .enum-told2 .given .1))
 
 returns-2 : tie.Need-returns-2
-unfolding shownStruck
+unfolding shownOutput
 returns-2 c =
     let told = c .before .before .before in
     let answer = missing-answers (open-at told) (start-at told .args .row) (start-at told .args .out .now) (c .before .if1 .taken) in
@@ -74,7 +75,7 @@ named-requires : tie.Need-named-requires
 named-requires c κs = open-fits (open-at (c .before .before .before .before))
 
 returns-3 : tie.Need-returns-3
-unfolding shownStruck
+unfolding shownOutput
 returns-3 c =
     let why = c .before .before in
     let size = why .before .before in
@@ -93,7 +94,7 @@ write-requires c κs =
     (open-fits (open-at (size .before .before .before .before)), size .before .before .if1 .left, omega (arith, none-due (c .before) .1, length-at size))
 
 returns-4 : tie.Need-returns-4
-unfolding shownStruck
+unfolding shownOutput
 returns-4 c =
     let wrote = c .before .before in
     let due = wrote .before .before in

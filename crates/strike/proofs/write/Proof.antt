@@ -5,7 +5,8 @@ use Prim.Native.Nat.{_≤_, _<_, _-_}
 use native.Mathlib.Omega.{arith}
 use lib.ListN.{length}
 use Rattle.strike.specs.Strike.{closedUp}
-use Rattle.strike.proofs.Filling.{held, struck-held, closed-count, closed-next, Filled, filled-none}
+use Rattle.table.proofs.Held.{held}
+use Rattle.strike.proofs.Filling.{struck-held, closed-count, closed-next, Filled, filled-none}
 use Rattle.strike.proofs.Filling.{filled-all, filled-within, filled-length, filled-room, filled-more}
 use borrow.Author.Needs.{needs}
 use Rattle.strike.proofs.write.Statement.{statement}
