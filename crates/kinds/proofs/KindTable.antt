@@ -1,6 +1,6 @@
--- The table of kinds goes both ways: a byte announces a kind exactly if it is that kind's byte.
+-- The table of kinds goes both ways: a byte announces a kind exactly if it is that kind's byte. A test that antt computes at all kinds holds at each.
 -- Assumes nothing.
-use mathlib.Core.Path.{_≡_, refl, sym, ap, _∙_}
+use mathlib.Core.Path.{_≡_, refl, sym}
 use mathlib.Core.Bool.{Bool, true, false, cond, not, _&&_}
 use mathlib.Core.List.{List, [], _∷_}
 use Prim.Native.Nat.{ℕ, zero, suc, _≤_, _<_}
@@ -21,25 +21,42 @@ use Rattle.kinds.specs.declared.QuestionKind.the-variants.{Compare, Not,
 use Rattle.kinds.specs.declared.Announced.the-variants.{Listed, Unlisted}
 use Rattle.kinds.specs.Kinds.{formOf, kinds, among, kindOf, isRow, isQuestion, asRow, asQuestion}
 
-among-byte : (l : List Kind) (k : ℕ) (kind : Kind) → among l k ≡ Listed kind → formOf kind .byte ≡ k
-among-byte [] k kind e = absurd (let z : _≡_ {A = ℕ} 0 1 = cc in omega arith)
-among-byte (x ∷ l) k kind e = go (eqb k (formOf x .byte)) refl e (among-byte l k kind)
+-- the kind among some that passes a test, passes it; and one that is found there has what all of these have
+pub among-passes : (passes : Kind → Bool) (l : List Kind) (kind : Kind) → among passes l ≡ Listed kind → passes kind ≡ true
+among-passes passes [] kind e = absurd (let z : _≡_ {A = ℕ} 0 1 = cc in omega arith)
+among-passes passes (x ∷ l) kind e = go (passes x) refl e (among-passes passes l kind)
   where
-    go : (b : Bool) → eqb k (formOf x .byte) ≡ b → cond b (Listed x) (among l k) ≡ Listed kind →
-        (among l k ≡ Listed kind → formOf kind .byte ≡ k) → formOf kind .byte ≡ k
-    go true q h rest = let same : x ≡ kind = cc in ap (λ (kind : Kind). formOf kind .byte) (sym same) ∙ sym (eqb-true k (formOf x .byte) q)
+    go : (b : Bool) → passes x ≡ b → cond b (Listed x) (among passes l) ≡ Listed kind → (among passes l ≡ Listed kind → passes kind ≡ true) →
+        passes kind ≡ true
+    go true q h rest = let same : x ≡ kind = cc in rw same at q
     go false q h rest = rest h
+
+abbrev pub all : (Kind → Bool) → List Kind → Bool
+all has [] = true
+all has (kind ∷ more) = has kind && all has more
+
+among-has : (passes has : Kind → Bool) (l : List Kind) (kind : Kind) → all has l ≡ true → among passes l ≡ Listed kind → has kind ≡ true
+among-has passes has [] kind h e = absurd (let z : _≡_ {A = ℕ} 0 1 = cc in omega arith)
+among-has passes has (x ∷ l) kind h e =
+    let parts = both-parts (has x) (all has l) h in
+    go (passes x) e (parts .0) (among-has passes has l kind (parts .1))
+  where
+    go : (b : Bool) → cond b (Listed x) (among passes l) ≡ Listed kind → has x ≡ true → (among passes l ≡ Listed kind → has kind ≡ true) →
+        has kind ≡ true
+    go true e h rest = let same : x ≡ kind = cc in rw same at h
+    go false e h rest = rest e
 
 pub byte-of-kind : (k : ℕ) (kind : Kind) → kindOf k ≡ Listed kind → formOf kind .byte ≡ k
 unfolding kindOf
-byte-of-kind = among-byte kinds
+byte-of-kind k kind e = sym (eqb-true k (formOf kind .byte) (among-passes (λ kind. eqb k (formOf kind .byte)) kinds kind e))
 
 -- a gap in the table: no kind's byte stands from lo up to hi
 abbrev clear : ℕ → ℕ → List Kind → Bool
 clear lo hi [] = true
 clear lo hi (x ∷ l) = not (leb lo (formOf x .byte) && ltb (formOf x .byte) hi) && clear lo hi l
 
-among-gap : (lo hi : ℕ) (l : List Kind) (k : ℕ) → clear lo hi l ≡ true → lo ≤ k → k < hi → among l k ≡ Unlisted
+among-gap : (lo hi : ℕ) (l : List Kind) (k : ℕ) → clear lo hi l ≡ true → lo ≤ k → k < hi → among (λ kind. eqb k
+    (formOf kind .byte)) l ≡ Unlisted
 among-gap lo hi [] k c p q = refl
 among-gap lo hi (x ∷ l) k c p q =
     let h = both-parts (not (leb lo (formOf x .byte) && ltb (formOf x .byte) hi)) (clear lo hi l) c in
@@ -77,6 +94,11 @@ kind-of-byte (Question (Compare Truth)) = refl
 kind-of-byte (Question (Compare Knowledge)) = refl
 kind-of-byte (Question Not) = refl
 kind-of-byte (Question Both) = refl
+
+-- what all kinds have, each has: so a law of the kinds is one computation
+pub each-kind : (has : Kind → Bool) → all has kinds ≡ true → (kind : Kind) → has kind ≡ true
+unfolding kindOf
+each-kind has h kind = among-has (λ other. eqb (formOf kind .byte) (formOf other .byte)) has kinds kind h (kind-of-byte kind)
 
 -- the constants go by their decisions' codes
 pub always-kind : (n : ℕ) → n < 4 → Listed (Row (Always (coded n))) ≡ kindOf n

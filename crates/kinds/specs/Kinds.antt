@@ -74,14 +74,14 @@ questionKinds = map Compare everyOrder ++ Not ∷ Both ∷ []
 abbrev pub kinds : List Kind
 kinds = map Row rowKinds ++ map Question questionKinds
 
--- the kind among these that a byte announces
-abbrev pub among : List Kind → ℕ → Announced
-among [] k = Unlisted
-among (kind ∷ more) k = cond (eqb k (formOf kind .byte)) (Listed kind) (among more k)
+-- the first among these that passes a test
+abbrev pub among : (Kind → Bool) → List Kind → Announced
+among passes [] = Unlisted
+among passes (kind ∷ more) = cond (passes kind) (Listed kind) (among passes more)
 
 -- the kind that a byte announces
 unfoldable pub kindOf : ℕ → Announced
-kindOf k = among kinds k
+kindOf k = among (λ kind. eqb k (formOf kind .byte)) kinds
 
 -- whether a kind is a row's, and whether it is a question's
 abbrev pub isRow : Kind → Bool

@@ -1,2 +1,3 @@
--- What the promises of this crate mean: the table of kinds.
+-- What the promises of this crate mean: the table of kinds, and each kind's word.
 pub mod Kinds
+pub mod Words

@@ -1,5 +1,7 @@
 // The table of kinds: what a kind byte announces, which byte announces a kind, and what a kind's body holds.
-// Reading, looking an entry up, writing and striking all go by it.
+// Reading, looking an entry up, writing and striking all go by it. Each kind's word stands in the module below.
+pub mod words;
+
 use belnap::Decision;
 use belnap::orders::Order;
 use operators::OneRow;
