@@ -1,0 +1,210 @@
+-- The bytes of a table as the code gathers them from a text, line by line.
+-- Assumes nothing.
+use mathlib.Core.Path.{_≡_, refl, sym, ap, ap₂, _∙_}
+use mathlib.Core.List.{List, [], _∷_, _++_, append-assoc, append-nil}
+use Prim.Native.Nat.{ℕ, suc, _+_, _-_, _≤_, _<_}
+use native.Mathlib.Omega.{arith}
+use native.Mathlib.Numerals.{add-one}
+use lib.ListN.{length, take, drop, length-append, length-drop}
+use lib.Seq.{take-length, drop-length, take-append-seam, take-append-add, length-take-le}
+use borrow.Author.Tests.{ne-eqb}
+use borrow.Rule.Slice.PartMut.{putMid, midOf}
+use Rattle.belnap.proofs.Finite.{never}
+use Rattle.kinds.specs.declared.Kind.{Kind}
+use Rattle.kinds.specs.declared.Kind.the-variants.{Row, Question}
+use Rattle.entries.specs.declared.Entry.{Entry}
+use Rattle.entries.specs.declared.refusals.Refusal.{Refusal}
+use Rattle.entries.specs.Refusals.{ofSpelling, isAmong}
+use Rattle.entries.specs.Said.{Said, answered, refusing, refusal, andThen, whyOf}
+use Rattle.entries.specs.Entries.{numbersOf, sizeOf, bytesOf, onto}
+use Rattle.entries.proofs.OneEntry.{size, onto-long}
+use Rattle.table.specs.declared.steps.Tally.{Tally}
+use Rattle.table.specs.Steps.{tally, oneMore, permitted}
+use Rattle.table.specs.Contents.{Contents, none, tallyOf, withKind, withEntry, entries, written, encoded}
+use Rattle.table.specs.Reading.{reading}
+use Rattle.table.proofs.Permission.{refused-inside}
+use Rattle.table.proofs.Writing.{Whole, none-whole, written-append, whole-accepted}
+use Rattle.table.proofs.Laws.{limits}
+use Rattle.text.specs.Lines.{lineFeed}
+use Rattle.text.specs.Texts.{onLine, spelled, split}
+use Rattle.text.specs.Calls.{lineAt, byLine, fromText}
+use Rattle.text.specs.Inner.{saidFrom, badFrom, ownUnless, byteLimit}
+use Rattle.text.proofs.Judging.{in-whole, in-entries, in-bytes, out-reading, line-of-place}
+use Rattle.text.proofs.ByLine.{no-line, here, Good, lines-number}
+
+-- an entry's bytes put behind the first ones of an array that has room for them
+module _ (bytes : List ℕ) (e : Entry) (at : ℕ) (room : at + sizeOf e ≤ length bytes) (k : ℕ) (ys : List ℕ) (ke : k ≡ length bytes - at)
+    (ye : ys ≡ onto (bytesOf e) (midOf at k bytes)) where
+  stored : putMid at k bytes ys ≡ take at bytes ++ (bytesOf e ++ drop (sizeOf e) (drop at bytes))
+  stored =
+      let rest = drop at bytes in
+      let q : k ≡ length rest = omega (arith, ke, length-drop at bytes) in
+      let mid : midOf at k bytes ≡ rest = ap (λ (k : ℕ). take k rest) q ∙ take-length rest in
+      let post : drop k rest ≡ [] = ap (λ (k : ℕ). drop k rest) q ∙ drop-length rest in
+      let long : numbersOf e < length rest = omega (arith, size e, length-drop at bytes) in
+      ap₂ (λ (ys post : List ℕ). take at bytes ++ (ys ++ post)) (ye ∙ ap (onto (bytesOf e)) mid ∙ sym (onto-long e rest long)) post
+      ∙ ap (λ (l : List ℕ). take at bytes ++ l) (append-nil (bytesOf e ++ drop (sizeOf e) rest))
+
+  pub put-front : take (at + sizeOf e) (putMid at k bytes ys) ≡ take at bytes ++ bytesOf e
+  put-front =
+      let long : length (take at bytes) ≡ at = length-take-le at bytes (omega arith) in
+      let rest = drop (sizeOf e) (drop at bytes) in
+      ap (take (at + sizeOf e)) stored
+      ∙ ap (λ (n : ℕ). take (n + sizeOf e) (take at bytes ++ (bytesOf e ++ rest))) (sym long)
+      ∙ take-append-add (take at bytes) (bytesOf e ++ rest) (sizeOf e)
+      ∙ ap (λ (l : List ℕ). take at bytes ++ l) (take-append-seam (bytesOf e) rest)
+
+  pub put-length : length (putMid at k bytes ys) ≡ length bytes
+  put-length =
+      ap length stored ∙ length-append (take at bytes) (bytesOf e ++ drop (sizeOf e) (drop at bytes))
+      ∙ omega (
+        arith,
+        length-take-le at bytes (omega arith),
+        length-append (bytesOf e) (drop (sizeOf e) (drop at bytes)),
+        length-drop (sizeOf e) (drop at bytes),
+        length-drop at bytes,
+      )
+
+-- entries before those that the rest of a text spells
+abbrev before : List Entry → Said (List Entry) → Said (List Entry)
+before es rest = andThen rest (λ fs. answered (es ++ fs))
+
+-- what was gathered up to a place of a text, where a line with this number begins: a whole table, in bytes, and the rest of the text is still to come
+pub record So (text bytes : List ℕ) (count : ℕ) (counts : Tally) (line at : ℕ) : Type 0 where
+  pub table : Contents
+  pub whole : Whole table
+  pub tallied : counts ≡ tallyOf table
+  pub says : saidFrom 1 text ≡ before (entries table) (saidFrom line (drop at text))
+  pub within : at ≤ length text
+  pub numbered : line ≡ suc (length (entries table))
+  pub few : line ≤ at + 1
+  pub long : count ≡ length (encoded table)
+  pub there : length bytes ≡ byteLimit
+  pub front : take count bytes ≡ encoded table
+
+-- the same, by other names
+pub so-as : {text bytes : List ℕ} {count : ℕ} {counts : Tally} {line at : ℕ} → So text bytes count counts line at →
+    (count' : ℕ) (counts' : Tally) (at' : ℕ) → count' ≡ count → counts' ≡ counts → at' ≡ at → So text bytes count' counts' line at'
+so-as so count' counts' at' p q r = rw (p, q, r) so
+
+-- so many rows and questions with an entry more
+tally-more : (c : Contents) (e : Entry) → oneMore (e .kind) (tallyOf c) ≡ tallyOf (withEntry c e)
+tally-more c e = go (e .kind)
+  where
+    go : (kind : Kind) → oneMore kind (tallyOf c) ≡ tallyOf (withKind kind e c)
+    go (Row k) = ap (λ (n : ℕ). tally n (length (c .questions))) (sym (length-append (c .rows) (e ∷ [])))
+    go (Question k) = ap (tally (length (c .rows))) (sym (length-append (c .questions) (e ∷ [])))
+
+-- a whole table is not too long
+pub whole-short : (c : Contents) → Whole c → length (encoded c) ≤ byteLimit
+whole-short c w = limits (encoded c) c (whole-accepted c w) .2
+
+pub at-start : (text bytes : List ℕ) → length bytes ≡ byteLimit → So text bytes 0 (tallyOf none) 1 0
+unfolding written
+at-start text bytes q = record {
+  table = none;
+  whole = none-whole;
+  tallied = refl;
+  says = start (saidFrom 1 text);
+  within = omega arith;
+  numbered = refl;
+  few = omega arith;
+  long = refl;
+  there = q;
+  front = refl;
+}
+  where
+    start : (x : Said (List Entry)) → x ≡ before [] x
+    start (answered es) = refl
+    start (refusing why) = refl
+
+module _ {text bytes : List ℕ} {count : ℕ} {counts : Tally} {line at : ℕ} (so : So text bytes count counts line at) where
+  -- at the end of the text: the table
+  pub at-end : length text ≤ at → fromText text ≡ answered (encoded (so .table))
+  unfolding fromText spelled saidFrom
+  at-end l =
+      let all : spelled text ≡ answered (entries (so .table)) =
+      so .says ∙ ap (before (entries (so .table))) (no-line text at line l) ∙ ap answered (append-nil (entries (so .table))) in
+      rw (all, whole-accepted (so .table) (so .whole))
+
+  -- at a bad line: its refusal
+  pub at-bad : (why : Refusal) → saidFrom line (drop at text) ≡ refusing why → fromText text ≡ refusing why
+  unfolding fromText spelled saidFrom
+  at-bad why q = let all : spelled text ≡ refusing why = so .says ∙ ap (before (entries (so .table))) q in rw all
+
+  -- at a line that is spelled well
+  module _ (inside : at < length text) (e : Entry) (good : Good text at line inside e) where
+    abbrev next : ℕ
+    next = here text at line inside .next
+
+    abbrev rest : Said (List Entry)
+    rest = saidFrom (suc line) (drop next text)
+
+    behind : saidFrom 1 text ≡ before (entries (so .table) ++ (e ∷ [])) rest
+    unfolding onLine
+    behind = so .says ∙ ap (before (entries (so .table))) (good .says) ∙ go rest
+      where
+        go : (x : Said (List Entry)) → before (entries (so .table)) (onLine line (answered e) x) ≡ before (entries (so .table) ++ (e ∷ [])) x
+        go (answered fs) = ap answered (sym (append-assoc (entries (so .table)) (e ∷ []) fs))
+        go (refusing why) = refl
+
+    -- whose entry may stand there: with its bytes behind the others
+    pub taken : (f : Entry) → permitted e counts ≡ answered f → (bytes' : List ℕ) → length bytes' ≡ length bytes →
+        take (count + sizeOf e) bytes' ≡ take count bytes ++ bytesOf e → So text bytes' (count + sizeOf e) (oneMore (e .kind) counts) (line + 1) next
+    taken f q bytes' long' front' =
+        let c = so .table in
+        let may : permitted e (tallyOf c) ≡ answered f = rw (so .tallied) at q in
+        let more = in-entries c (so .whole) e (good .plain) f may in
+        let wide = in-bytes c (so .whole) e (good .plain) f may in record {
+          table = withEntry c e;
+          whole = in-whole c (so .whole) e (good .plain) f may;
+          tallied = ap (oneMore (e .kind)) (so .tallied) ∙ tally-more c e;
+          says = behind ∙ rw (more, add-one line);
+          within = good .within;
+          numbered = omega (arith, so .numbered, ap length more, length-append (entries c) (e ∷ []));
+          few = omega (arith, so .few, good .forth);
+          long = omega (arith, so .long, ap length wide, length-append (encoded c) (bytesOf e));
+          there = long' ∙ so .there;
+          front = front' ∙ ap (λ (l : List ℕ). l ++ bytesOf e) (so .front) ∙ sym wide;
+        }
+
+    -- there is room for them
+    pub has-room : (f : Entry) → permitted e counts ≡ answered f → count + sizeOf e ≤ length bytes
+    has-room f q =
+        let c = so .table in
+        let may : permitted e (tallyOf c) ≡ answered f = rw (so .tallied) at q in
+        let wide = in-bytes c (so .whole) e (good .plain) f may in
+        omega (
+          arith,
+          so .long,
+          so .there,
+          ap length wide,
+          length-append (encoded c) (bytesOf e),
+          whole-short (withEntry c e) (in-whole c
+              (so .whole) e (good .plain) f may),
+        )
+
+    -- whose entry may not: its refusal, unless a line behind is bad
+    pub stopped : (why : Refusal) → permitted e counts ≡ refusing why →
+        fromText text ≡ refusing (ownUnless (refusal (why .number) line) (badFrom (line + 1) (drop next text)))
+    unfolding fromText spelled saidFrom written
+    stopped why q = rw (add-one line) (go rest refl)
+      where
+        go : (x : Said (List Entry)) → rest ≡ x → fromText text ≡ refusing (ownUnless (refusal (why .number) line) (whyOf x))
+        go (answered fs) r =
+            let c = so .table in
+            let es = entries c ++ (e ∷ fs) in
+            let all : spelled text ≡ answered es =
+            behind ∙ ap (before (entries c ++ (e ∷ []))) r ∙ ap answered (append-assoc (entries c) (e ∷ []) fs) in
+            let may : permitted e (tallyOf c) ≡ refusing why = rw (so .tallied) at q in
+            let bytes : written es ≡ encoded c ++ (bytesOf e ++ written fs) = written-append (entries c) (e ∷ fs) in
+            let inside : why .place < sizeOf e = omega (arith, refused-inside e (tallyOf c) why may, size e) in
+            let place : lineAt es (length (encoded c) + why .place) ≡ line = line-of-place (entries c) e fs (why .place) inside ∙ sym (so .numbered) in
+            rw (all) (ap (byLine es) (ap reading bytes ∙ out-reading c (so .whole) e (good .plain) (written fs) why may)
+            ∙ ap (λ (l : ℕ). refusing (refusal (why .number) l)) place)
+        go (refusing w) r =
+            let all : spelled text ≡ refusing w = behind ∙ ap (before (entries (so .table) ++ (e ∷ []))) r in
+            let lines = split lineFeed (drop next text) in
+            let some : w .number ≡ 0 → ⊥ = λ z. never (sym (ap (isAmong ofSpelling) (sym z) ∙ lines-number
+            (lines .more) (suc line) (lines .first) w r)) in
+            rw (all, ne-eqb (w .number) 0 some)
