@@ -1,6 +1,7 @@
 -- Laws of the services; below this file, a folder for each function that has a proof of its own.
 pub mod KnownMasks
 pub mod Serving
+pub mod WrittenTables
 pub mod Unique
 pub mod FirstDemand
 pub mod Answered

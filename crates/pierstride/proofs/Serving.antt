@@ -1,6 +1,6 @@
 -- How a service answers: from a reading that was refused, and from one that was opened, by what was asked.
 -- Assumes nothing.
-use mathlib.Core.Path.{_≡_, sym, ap, _∙_}
+use mathlib.Core.Path.{_≡_, refl, sym, ap, _∙_}
 use mathlib.Core.Bool.{Bool, false}
 use mathlib.Core.List.{List}
 use Prim.Native.Nat.{ℕ, min, _≤_, _<_}
@@ -35,7 +35,8 @@ use Rattle.walk.proofs.Sights.{same-walk}
 use Rattle.pierstride.specs.declared.Counts.{Counts}
 use Rattle.pierstride.specs.declared.Remaining.{Remaining}
 use Rattle.pierstride.specs.Masks.{beyond, badMasks}
-use Rattle.pierstride.specs.Services.{askedWrongly, decidedOf, remainingOf, verdictOf, repliedOf, walkOf}
+use Rattle.entries.specs.Output.{shownOutput}
+use Rattle.pierstride.specs.Services.{askedWrongly, decidedOf, remainingOf, verdictOf, repliedOf, walkOf, writtenOf, writtenBy}
 use Rattle.pierstride.specs.Services.{readAnswer, saysDecide, decideAnswer, saysPossible, possibleAnswer, saysVerdict, verdictAnswer}
 
 -- a refusal of reading's is passed on unchanged, by every service
@@ -144,3 +145,9 @@ module _ {s : List ℕ} {got : Reading} (o : Opened s got) where
         let n : min (t .predicates) predicateLimit ≡ predicates c = omega (arith, predicates-is, fits .1) in
         let d : p ≡ walked = q ∙ rw (lt-ltb at questionLimit (fits .0), n) (ap (replyOf budget) same) in
         rw d (sym (ap verdictOf (verdict-said ∙ unless-none why _ e)))
+
+-- what a call that writes says, as numbers
+pub written-shown : (x : Said ℕ) → writtenBy (shownOutput x) ≡ writtenOf x
+unfolding shownOutput
+written-shown (answered n) = refl
+written-shown (refusing why) = refl

@@ -10,6 +10,9 @@ use Rattle.belnap.specs.Decisions.{code}
 use Rattle.lookup.specs.declared.Part.{Part}
 use Rattle.entries.specs.Refusals.{notThere, badMask}
 use Rattle.entries.specs.Said.{Said, answered, refusing, andThen, unless}
+use Rattle.entries.specs.declared.refusals.Output.{Output}
+use Rattle.entries.specs.declared.refusals.Output.the-variants as Output
+use Rattle.entries.specs.Output.{sent, outputOf}
 use Rattle.table.specs.Contents.{Contents, predicates}
 use Rattle.table.specs.Reading.{reading}
 use Rattle.lookup.specs.Lookup.{placeOf}
@@ -20,7 +23,8 @@ use Rattle.walk.specs.declared.Reply.{Reply}
 use Rattle.walk.specs.declared.Reply.the-variants.{Holds, Fails, Unfinished}
 use Rattle.walk.specs.Walk.{Visit, walk, replyOf}
 use Rattle.strike.specs.Strike.{struckAnswer, struckOutput}
-use Rattle.pierstride.specs.declared.Closed.{Closed}
+use Rattle.text.specs.Calls.{toText, fromText}
+use Rattle.pierstride.specs.declared.Written.{Written}
 use Rattle.pierstride.specs.declared.Counts.{Counts}
 use Rattle.pierstride.specs.declared.Decided.{Decided}
 use Rattle.pierstride.specs.declared.Remaining.{Remaining}
@@ -105,16 +109,34 @@ saysEntry s r = placeOf (reading s) r
 abbrev pub entryAnswer : List ℕ → ℕ → Located
 entryAnswer s r = locatedOf (saysEntry s r)
 
--- striking: "The length comes back."
-abbrev pub closedOf : Said ℕ → Closed
-closedOf (answered n) = record { refusal = 0; place = 0; length = n }
-closedOf (refusing why) = record { refusal = why .number; place = why .place; length = 0 }
+-- a call that writes: "The length comes back."
+abbrev pub writtenOf : Said ℕ → Written
+writtenOf (answered n) = record { refusal = 0; place = 0; length = n }
+writtenOf (refusing why) = record { refusal = why .number; place = why .place; length = 0 }
 
+abbrev pub writtenBy : Output → Written
+writtenBy (Output.Written n) = writtenOf (answered n)
+writtenBy (Output.Refused why) = writtenOf (refusing why)
+
+-- striking
 abbrev pub saysStrike : List ℕ → ℕ → List ℕ → Said ℕ
 saysStrike s r out = struckAnswer (reading s) r (length out)
 
-abbrev pub strikeAnswer : List ℕ → ℕ → List ℕ → Closed
-strikeAnswer s r out = closedOf (saysStrike s r out)
+abbrev pub strikeAnswer : List ℕ → ℕ → List ℕ → Written
+strikeAnswer s r out = writtenOf (saysStrike s r out)
 
 abbrev pub strikeOutput : List ℕ → ℕ → List ℕ → List ℕ
 strikeOutput s r out = struckOutput (reading s) r out
+
+-- "Write and read a text of one line an entry" (02, L2)
+abbrev pub toTextAnswer : List ℕ → List ℕ → Written
+toTextAnswer s out = writtenOf (sent (toText s) (length out))
+
+abbrev pub toTextOutput : List ℕ → List ℕ → List ℕ
+toTextOutput s out = outputOf (toText s) out
+
+abbrev pub fromTextAnswer : List ℕ → List ℕ → Written
+fromTextAnswer text out = writtenOf (sent (fromText text) (length out))
+
+abbrev pub fromTextOutput : List ℕ → List ℕ → List ℕ
+fromTextOutput text out = outputOf (fromText text) out

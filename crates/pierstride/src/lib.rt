@@ -1,9 +1,9 @@
-// The services for the catalogue server: each takes the table's bytes, reads them first, and answers a struct of plain numbers.
+// The services for the catalogue server: each takes a table's bytes, or a text, reads it first, and answers a struct of plain numbers.
 // `refusal` is 01's number, 0 for none, and `place` its place; a field that says nothing in a case is 0.
 use entries::refusals;
+use entries::refusals::Output;
 use entries::refusals::Refusal;
 use lookup::Place;
-use strike::Struck;
 use table::Outcome;
 use table::Table;
 use walk::Reply;
@@ -12,6 +12,7 @@ ghost use Rattle.pierstride.specs.Masks.{beyond, knownBelow, badMasks};
 ghost use Rattle.entries.specs.Said.{refusing};
 ghost use Rattle.table.specs.Steps.{predicateLimit};
 ghost use Rattle.pierstride.specs.Services.{askedWrongly, countsOf, decidedOf, remainingOf, verdictOf, repliedOf};
+ghost use Rattle.pierstride.specs.Services.{writtenBy, toTextAnswer, toTextOutput, fromTextAnswer, fromTextOutput};
 ghost use Rattle.pierstride.specs.Services.{readAnswer, decideAnswer, possibleAnswer, verdictAnswer, entryAnswer, strikeAnswer, strikeOutput};
 
 // How many rows and questions a table has, and n.
@@ -66,9 +67,9 @@ pub struct Located {
     pub length: usize,
 }
 
-// How many bytes the table has once a row is struck.
+// How many bytes were written.
 #[repr(C)]
-pub struct Closed {
+pub struct Written {
     pub refusal: u32,
     pub place: usize,
     pub length: usize,
@@ -306,23 +307,47 @@ pub extern "C" fn pier_entry(table: &[u8], row: u32) -> Located
     }
 }
 
-// The table without a row, over the front of the lent output; a refusal changes no lent byte.
-#[no_mangle]
-pub extern "C" fn pier_strike(table: &[u8], row: u32, out: &mut [u8]) -> Closed
-    ensures answer { λ r. ⌜ r ≡ strikeAnswer (now (table .entry)) row (now (out .entry)) ⌝ }
-    ensures output { λ r. ⌜ now (out .exit) ≡ strikeOutput (now (table .entry)) row (now (out .entry)) ⌝ }
+// What a call that writes answers, as numbers.
+fn answer_of(output: Output) -> Written
+    ensures { λ r. ⌜ r ≡ writtenBy output ⌝ }
 {
-    let struck = strike::strike(table, row, out);
-    match struck {
-        Struck::Written(length) => Closed {
+    match output {
+        Output::Written(length) => Written {
             refusal: 0,
             place: 0,
             length,
         },
-        Struck::Refused(why) => Closed {
+        Output::Refused(why) => Written {
             refusal: why.number as u32,
             place: why.place,
             length: 0,
         },
     }
+}
+
+// The table without a row, over the front of the lent output; a refusal changes no lent byte.
+#[no_mangle]
+pub extern "C" fn pier_strike(table: &[u8], row: u32, out: &mut [u8]) -> Written
+    ensures answer { λ r. ⌜ r ≡ strikeAnswer (now (table .entry)) row (now (out .entry)) ⌝ }
+    ensures output { λ r. ⌜ now (out .exit) ≡ strikeOutput (now (table .entry)) row (now (out .entry)) ⌝ }
+{
+    answer_of(strike::strike(table, row, out))
+}
+
+// The text of a table, over the front of the lent output; a refusal changes no lent byte.
+#[no_mangle]
+pub extern "C" fn pier_to_text(table: &[u8], out: &mut [u8]) -> Written
+    ensures answer { λ r. ⌜ r ≡ toTextAnswer (now (table .entry)) (now (out .entry)) ⌝ }
+    ensures output { λ r. ⌜ now (out .exit) ≡ toTextOutput (now (table .entry)) (now (out .entry)) ⌝ }
+{
+    answer_of(text::to_text(table, out))
+}
+
+// The bytes of the table that a text spells, over the front of the lent output; the place of every refusal but 11 is a line's number.
+#[no_mangle]
+pub extern "C" fn pier_from_text(text: &[u8], out: &mut [u8]) -> Written
+    ensures answer { λ r. ⌜ r ≡ fromTextAnswer (now (text .entry)) (now (out .entry)) ⌝ }
+    ensures output { λ r. ⌜ now (out .exit) ≡ fromTextOutput (now (text .entry)) (now (out .entry)) ⌝ }
+{
+    answer_of(text::from_text(text, out))
 }
