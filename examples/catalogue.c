@@ -1,13 +1,15 @@
 /*
  * Reads a rule table from the file that the command line names, decides a
- * request over it and asks its questions; then strikes rows from a second table.
+ * request over it, asks its questions, and shows its text; then strikes rows from
+ * a second table.
  */
 #include <stdio.h>
+#include <string.h>
 
 #include "pierstride.h"
 
-/* A table has at most 960 bytes; one byte more shows that a file is longer. */
-enum { MOST_BYTES = 961 };
+/* One byte more than a table can have shows that a file is longer. */
+enum { MOST_BYTES = PIER_TABLE_BYTES + 1 };
 
 static const uint32_t BUDGET = 1000000;
 
@@ -94,11 +96,24 @@ static void ask(const uint8_t *table, size_t length, uint32_t question)
 static void strike(const uint8_t *table, size_t length, uint32_t row)
 {
     uint8_t out[MOST_BYTES];
-    pier_struck struck = pier_strike(table, length, row, out, sizeof out);
+    pier_written struck = pier_strike(table, length, row, out, sizeof out);
     printf("strike row %lu: ", (unsigned long)row);
     if (!refused(struck.refusal, struck.place)) {
         printf("%lu bytes,", (unsigned long)struck.length);
         print_bytes(out, struck.length);
+    }
+}
+
+/* Prints the text of a table, and whether reading it gives the table's bytes back. */
+static void show_text(const uint8_t *table, size_t length)
+{
+    uint8_t text[PIER_TEXT_BYTES], bytes[MOST_BYTES];
+    pier_written written = pier_to_text(table, length, text, sizeof text);
+    pier_written back = pier_from_text(text, written.length, bytes, sizeof bytes);
+    if (!refused(written.refusal, written.place) && !refused(back.refusal, back.place)) {
+        printf("its text, which reads as %s bytes:\n",
+               back.length == length && memcmp(bytes, table, length) == 0 ? "the same" : "other");
+        fwrite(text, 1, written.length, stdout);
     }
 }
 
@@ -118,6 +133,7 @@ static int show_table(const uint8_t *table, size_t length)
     for (question = 0; question < counts.questions; question++) {
         ask(table, length, question);
     }
+    show_text(table, length);
     return 0;
 }
 

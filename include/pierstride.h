@@ -3,7 +3,8 @@
  *
  * A table is a byte string: a run of rows, then a run of questions about them.
  * Each call takes the whole table and reads it first. Nothing is kept between
- * calls.
+ * calls. A table also has a text, one line an entry, for people to read and to
+ * write: pier_to_text and pier_from_text turn one into the other.
  *
  * What the caller need check. Of bytes and numbers, nothing: every byte string
  * and every number brings an answer or a numbered refusal. Of memory, what no
@@ -29,16 +30,28 @@ extern "C" {
 #endif
 
 /*
- * The refusals, in the order in which they are looked for. The first seven are
- * those of reading, which every call may give: they are looked for entry by
- * entry from the front, so the first bad entry speaks. The others speak of what
- * was asked. A refusal changes no byte of any slice.
+ * The refusals; those of a call on a table stand in the order in which they are
+ * looked for. The first seven are those of reading, which every such call may
+ * give: they are looked for entry by entry from the front, so the first bad entry
+ * speaks. The others speak of what was asked. A refusal changes no byte of any
+ * slice.
  *
- * The place is an index into the table's bytes, from 0. What stands there is the
- * first word of each line:
+ * In a call on a table the place is an index into the table's bytes, from 0. The
+ * first word of each comment below says what stands there:
  *   entry   the kind byte of the bad entry
  *   number  the bad number, in the body of the bad entry; the first, if two are bad
  *   none    nothing; the place is 0
+ * and "line" stands for the bad line of a text, which only pier_from_text gives.
+ *
+ * pier_from_text takes a text instead of a table. Each of its refusals has the
+ * number of a line as its place, from 1, but PIER_OUTPUT_TOO_SHORT, whose place is
+ * 0. They are looked for in this order:
+ *   1. PIER_UNKNOWN_WORD and PIER_MISSPELT_LINE, line by line from the front through
+ *      the whole text: the first bad line speaks, and only on one and the same line
+ *      does PIER_UNKNOWN_WORD go before PIER_MISSPELT_LINE;
+ *   2. those of reading, for the entries that the lines spell: the first bad entry
+ *      speaks, at its line (PIER_KIND_NOT_LISTED and PIER_BODY_CUT_SHORT cannot occur);
+ *   3. PIER_OUTPUT_TOO_SHORT.
  */
 enum {
     PIER_NO_REFUSAL = 0,
@@ -52,7 +65,9 @@ enum {
     PIER_NOT_THERE = 8,          /* none: the row or question asked for is not there */
     PIER_ROW_IS_NAMED = 9,       /* none: a row or question names the row to strike */
     PIER_BAD_MASK = 10,          /* none: a mask bit is above 23, or a yes is not known */
-    PIER_OUTPUT_TOO_SHORT = 11   /* none: the output is shorter than the bytes to write */
+    PIER_OUTPUT_TOO_SHORT = 11,  /* none: the output is shorter than the bytes to write */
+    PIER_UNKNOWN_WORD = 12,      /* line: its word is unknown, or it has a number above 255 */
+    PIER_MISSPELT_LINE = 13      /* line: any other spelling that pier_to_text does not write */
 };
 
 /* The decisions. */
@@ -70,8 +85,18 @@ enum {
     PIER_UNFINISHED = 3 /* the walk makes more visits than the budget */
 };
 
-/* No call needs more than this many bytes of stack (measured on the largest tables). */
+/* No call needs more than this many bytes of stack (measured on the largest tables and on
+   long texts). */
 enum { PIER_STACK_BYTES = 32 * 1024 };
+
+/* No table has more bytes. */
+enum { PIER_TABLE_BYTES = 960 };
+
+/*
+ * No table has a longer text: so many bytes has that of 256 rows and 64 questions,
+ * each with the longest word and the highest numbers that can stand there.
+ */
+enum { PIER_TEXT_BYTES = 9107 };
 
 /*
  * Every answer begins with the refusal and its place, PIER_NO_REFUSAL and 0 if
@@ -112,12 +137,12 @@ typedef struct {
     uint32_t visits;  /* the count of visits; PIER_UNFINISHED: the budget */
 } pier_verdict_reply;
 
-/* What pier_strike answers. */
+/* What every call that writes answers: pier_strike, pier_to_text and pier_from_text. */
 typedef struct {
     uint32_t refusal;
     size_t place;
     size_t length; /* how many bytes were written */
-} pier_struck;
+} pier_written;
 
 /* What pier_entry answers. */
 typedef struct {
@@ -177,8 +202,8 @@ pier_verdict_reply pier_verdict(const uint8_t *table, size_t table_len, uint32_t
  * Refusals: those of reading; PIER_NOT_THERE; PIER_ROW_IS_NAMED;
  * PIER_OUTPUT_TOO_SHORT.
  */
-pier_struck pier_strike(const uint8_t *table, size_t table_len, uint32_t row, uint8_t *out,
-                        size_t out_len);
+pier_written pier_strike(const uint8_t *table, size_t table_len, uint32_t row, uint8_t *out,
+                         size_t out_len);
 
 /*
  * Answers where in the table the bytes of a row lie, from its kind byte on. On a
@@ -187,6 +212,33 @@ pier_struck pier_strike(const uint8_t *table, size_t table_len, uint32_t row, ui
  * Refusals: those of reading; PIER_NOT_THERE.
  */
 pier_part pier_entry(const uint8_t *table, size_t table_len, uint32_t row);
+
+/*
+ * Writes the text of a table to the front of `out`. It has one line for each entry,
+ * in their order: the word for its kind, its numbers in decimal with a single space
+ * before each, and a line feed. So row r is on line r + 1. docs/WORDS.md lists the
+ * words. Every accepted table has exactly one text, and pier_from_text reads that as
+ * the same bytes. No byte of 0 ends it. The bytes of `out` behind those written keep
+ * what they had. PIER_TEXT_BYTES bytes are always enough.
+ *
+ * Refusals: those of reading; PIER_OUTPUT_TOO_SHORT.
+ */
+pier_written pier_to_text(const uint8_t *table, size_t table_len, uint8_t *out, size_t out_len);
+
+/*
+ * Writes the bytes of the table that a text spells to the front of `out`. A text
+ * that is not refused is the one that pier_to_text writes for these bytes, to the
+ * letter; the empty text is that of the empty table. On a line the word runs to the
+ * first space or to the line's end. Behind it, whatever is digits alone from a space
+ * to the next, or to the line's end, is a number, by its value however long. Spaces
+ * and line feeds alone separate: a carriage return or a tab is a part of the word or
+ * of what should be a number. The bytes of `out` behind those written keep what they
+ * had. `text_len` bytes are always enough, and so are PIER_TABLE_BYTES.
+ *
+ * Refusals, at a line's number: PIER_UNKNOWN_WORD and PIER_MISSPELT_LINE; those of
+ * reading. At 0: PIER_OUTPUT_TOO_SHORT.
+ */
+pier_written pier_from_text(const uint8_t *text, size_t text_len, uint8_t *out, size_t out_len);
 
 #ifdef __cplusplus
 }

@@ -4,6 +4,8 @@
 //! Each function takes the whole table and reads it first; nothing is kept
 //! between calls, and any thread may call. Every byte string and every number
 //! brings an answer or a [`Refusal`], so nothing need be checked beforehand.
+//! A table also has a text, one line an entry: [`to_text`] writes it, and
+//! [`from_text`] reads any text, with an answer or a [`TextRefusal`].
 //!
 //! The functions call the static library `libpierstride.a`, which the build
 //! looks for in the directory that the environment variable `PIERSTRIDE_LIB`
@@ -33,10 +35,15 @@ pub mod raw;
 
 use std::fmt;
 
-/// Declares [`Refusal`] and its messages from one table: each refusal's number, what
-/// its place points at, if at anything, and what is said of that.
+/// Declares [`Refusal`] and [`TextRefusal`] and their messages from one table: each
+/// refusal's number; what its place among a table's bytes points at, if at anything,
+/// and what is said of that; behind a bar, what is said of the line of a text.
 macro_rules! refusals {
-    ($($number:literal: $(the $pointed_at:ident at place)? $reason:literal;)*) => {
+    ($(
+        $number:literal:
+        $($(the $pointed_at:ident at place)? $reason:literal)?
+        $(| $of_a_line:literal)?;
+    )*) => {
         /// Why a call was not answered.
         ///
         /// Refusals 1 to 7 are those of reading and speak of the first bad entry of
@@ -47,12 +54,12 @@ macro_rules! refusals {
         ///
         /// | Number | Given when |
         /// |---|---|
-        $(
+        $($(
             #[doc = concat!(
                 "| ", $number, " | ", $("the ", stringify!($pointed_at), " at the place ",)?
                 $reason, " |"
             )]
-        )*
+        )?)*
         ///
         /// Displayed, it is a line for a reader who has the table at hand:
         ///
@@ -74,7 +81,7 @@ macro_rules! refusals {
             fn fmt(&self, f: &mut fmt::Formatter) -> fmt::Result {
                 write!(f, "refused {}: ", self.number)?;
                 match self.number {
-                    $(
+                    $($(
                         $number => {
                             $(
                                 let pointed_at = stringify!($pointed_at);
@@ -82,9 +89,49 @@ macro_rules! refusals {
                             )?
                             f.write_str($reason)
                         }
-                    )*
+                    )?)*
                     _ => f.write_str("unknown reason"),
                 }
+            }
+        }
+
+        /// Why a text was not read.
+        ///
+        /// Refusals 12 and 13 speak of the first line that is not well spelled, and 13
+        /// is given only if there is no cause for 12 on that line. If every line is
+        /// well spelled, 3 to 7 speak of the first line that is a bad entry of the
+        /// table. Refusal 11 comes last: the output is shorter than the bytes to
+        /// write. It speaks of no line.
+        ///
+        /// | Number | Given when, at the line |
+        /// |---|---|
+        $($(#[doc = concat!("| ", $number, " | ", $of_a_line, " |")])?)*
+        ///
+        /// Displayed, it is a line for a reader who has the text at hand:
+        ///
+        /// ```
+        /// let text = b"grant-if 0\nnegation 1\n";
+        /// let refusal = pierstride::from_text(text, &mut [0; 4]).unwrap_err();
+        /// assert_eq!((refusal.number, refusal.place), (4, 2));
+        /// let reason = "it names a row or question that does not stand before it";
+        /// assert_eq!(refusal.to_string(), format!("refused 4 at line 2: {reason}"));
+        /// ```
+        #[derive(Clone, Copy, Debug, PartialEq, Eq)]
+        pub struct TextRefusal {
+            /// The number of the refusal: 3 to 7, or 11 to 13.
+            pub number: u32,
+            /// The number of the line that it speaks of, from 1; 0 if of none.
+            pub place: usize,
+        }
+
+        impl fmt::Display for TextRefusal {
+            fn fmt(&self, f: &mut fmt::Formatter) -> fmt::Result {
+                let TextRefusal { number, place } = *self;
+                let reason = match number {
+                    $($($number => $of_a_line,)?)*
+                    _ => return Refusal { number, place }.fmt(f),
+                };
+                write!(f, "refused {number} at line {place}: {reason}")
             }
         }
     };
@@ -93,18 +140,34 @@ macro_rules! refusals {
 refusals! {
     1: the entry at place "has a kind that is not listed";
     2: the entry at place "is cut short";
-    3: the number at place "is a predicate above 23";
-    4: the number at place "may not be named there";
-    5: the entry at place "is a row after a question";
-    6: the entry at place "is a 257th row";
-    7: the entry at place "is a 65th question";
+    3: the number at place "is a predicate above 23"
+        | "the predicate is above 23";
+    4: the number at place "may not be named there"
+        | "it names a row or question that does not stand before it";
+    5: the entry at place "is a row after a question"
+        | "it is a row after a question";
+    6: the entry at place "is a 257th row"
+        | "it is a 257th row";
+    7: the entry at place "is a 65th question"
+        | "it is a 65th question";
     8: "the row or question asked for is not there";
     9: "the row to strike is named by a row or question";
     10: "a mask has a bit above 23, or a yes that is not known";
     11: "the output is shorter than the bytes to write";
+    12: | "the word is missing or unknown, or a number is above 255";
+    13: | "it is misspelt (it needs a word and as many numbers as that takes, a single \
+           space before each, no leading zero, and a line feed at the end)";
 }
 
 impl std::error::Error for Refusal {}
+
+impl std::error::Error for TextRefusal {}
+
+/// So many bytes are always enough for a table.
+pub const TABLE_BYTES: usize = 960;
+
+/// So many bytes are always enough for the text of a table.
+pub const TEXT_BYTES: usize = 9107;
 
 /// What a table consists of.
 #[derive(Clone, Copy, Debug, PartialEq, Eq)]
@@ -305,4 +368,66 @@ pub fn entry(table: &[u8], row: u32) -> Result<&[u8], Refusal> {
     let reply = unsafe { raw::pier_entry(table.as_ptr(), table.len(), row) };
     accepted(reply.refusal, reply.place)?;
     Ok(&table[reply.start..][..reply.length])
+}
+
+/// Writes the text of a table to the front of `out` and answers how many bytes that
+/// took; [`TEXT_BYTES`] are always enough.
+///
+/// The text has one line for each entry, in their order: the word for its kind, its
+/// numbers in decimal with a single space before each, and a line feed. So row r is
+/// on line r + 1. Every accepted table has exactly one text, and [`from_text`] reads
+/// that as the same bytes. The bytes of `out` behind those written keep what they
+/// had, and on a refusal all of them do.
+///
+/// ```
+/// let table = [0x11, 0x05, 0x20, 0x00, 0x40, 0x00, 0x01];
+/// let mut text = [0; pierstride::TEXT_BYTES];
+/// let length = pierstride::to_text(&table, &mut text)?;
+/// assert_eq!(&text[..length], b"grant-if 5\nnegation 0\ntruth-at-or-below 0 1\n");
+/// # Ok::<(), pierstride::Refusal>(())
+/// ```
+///
+/// # Errors
+///
+/// In this order: refusals 1 to 7, for the first bad entry of the table; 11, if
+/// `out` is shorter than the bytes to write.
+pub fn to_text(table: &[u8], out: &mut [u8]) -> Result<usize, Refusal> {
+    let (table, table_len) = (table.as_ptr(), table.len());
+    // SAFETY: the pointers and the lengths are those of two slices, which cannot
+    // overlap as one of them is borrowed mutably.
+    let reply = unsafe { raw::pier_to_text(table, table_len, out.as_mut_ptr(), out.len()) };
+    accepted(reply.refusal, reply.place)?;
+    Ok(reply.length)
+}
+
+/// Writes the bytes of the table that a text spells to the front of `out` and answers
+/// how many they are; as many as the text has are always enough, and so are
+/// [`TABLE_BYTES`].
+///
+/// A text that is read is the one that [`to_text`] writes for these bytes, to the
+/// letter. The bytes of `out` behind those written keep what they had, and on a
+/// refusal all of them do.
+///
+/// ```
+/// let text = b"grant-if 5\nnegation 0\ntruth-at-or-below 0 1\n";
+/// let mut table = [0; pierstride::TABLE_BYTES];
+/// let length = pierstride::from_text(text, &mut table)?;
+/// assert_eq!(table[..length], [0x11, 0x05, 0x20, 0x00, 0x40, 0x00, 0x01]);
+/// # Ok::<(), pierstride::TextRefusal>(())
+/// ```
+///
+/// # Errors
+///
+/// In this order: refusals 12 and 13, for the first line that is not well spelled, 12
+/// before 13 on that line; 3 to 7, for the first line that is a bad entry of the
+/// table; 11, if `out` is shorter than the bytes to write.
+pub fn from_text(text: &[u8], out: &mut [u8]) -> Result<usize, TextRefusal> {
+    let (text, text_len) = (text.as_ptr(), text.len());
+    // SAFETY: the pointers and the lengths are those of two slices, which cannot
+    // overlap as one of them is borrowed mutably.
+    let reply = unsafe { raw::pier_from_text(text, text_len, out.as_mut_ptr(), out.len()) };
+    match reply.refusal {
+        0 => Ok(reply.length),
+        number => Err(TextRefusal { number, place: reply.place }),
+    }
 }

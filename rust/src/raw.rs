@@ -7,7 +7,7 @@
 //!
 //! Each function is unsafe to call for one reason: every pointer must be good
 //! for as many bytes as the length beside it says, an output for writing and
-//! apart from the table.
+//! apart from the table or the text.
 
 /// The reply of [`pier_read`].
 #[repr(C)]
@@ -50,10 +50,11 @@ pub struct PierVerdictReply {
     pub visits: u32,
 }
 
-/// The reply of [`pier_strike`].
+/// The reply of every function that writes: [`pier_strike`], [`pier_to_text`] and
+/// [`pier_from_text`].
 #[repr(C)]
 #[derive(Clone, Copy, Debug)]
-pub struct PierStruck {
+pub struct PierWritten {
     pub refusal: u32,
     pub place: usize,
     pub length: usize,
@@ -120,8 +121,18 @@ c_functions! {
     /// The C function behind [`strike`](crate::strike).
     fn pier_strike(
         table: *const u8, table_len: usize, row: u32, out: *mut u8, out_len: usize
-    ) -> PierStruck;
+    ) -> PierWritten;
 
     /// The C function behind [`entry`](crate::entry).
     fn pier_entry(table: *const u8, table_len: usize, row: u32) -> PierPart;
+
+    /// The C function behind [`to_text`](crate::to_text).
+    fn pier_to_text(
+        table: *const u8, table_len: usize, out: *mut u8, out_len: usize
+    ) -> PierWritten;
+
+    /// The C function behind [`from_text`](crate::from_text).
+    fn pier_from_text(
+        text: *const u8, text_len: usize, out: *mut u8, out_len: usize
+    ) -> PierWritten;
 }

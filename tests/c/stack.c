@@ -1,6 +1,6 @@
 /*
- * Measures how much stack each call uses, on tables that ask much of it, and
- * fails if one uses more than PIER_STACK_BYTES.
+ * Measures how much stack each call uses, on tables and texts that ask much of it,
+ * and fails if one uses more than PIER_STACK_BYTES.
  *
  * The calls run on a stack of their own, which is painted with one byte before
  * each: the lowest byte that is another afterwards shows how deep the call went.
@@ -25,15 +25,22 @@ typedef struct {
     size_t length;
 } table;
 
-typedef enum { READ, DECIDE, POSSIBLE, VERDICT, STRIKE, ENTRY, SERVICES } service;
+/* A text far longer than any that is accepted. */
+enum { LONG_TEXT = 1 << 20 };
 
-static const char *const NAMES[SERVICES] = {"pier_read",    "pier_decide", "pier_possible",
-                                            "pier_verdict", "pier_strike", "pier_entry"};
+typedef enum {
+    READ, DECIDE, POSSIBLE, VERDICT, STRIKE, ENTRY, TO_TEXT, FROM_TEXT, SERVICES
+} service;
+
+static const char *const NAMES[SERVICES] = {"pier_read",    "pier_decide",   "pier_possible",
+                                            "pier_verdict", "pier_strike",   "pier_entry",
+                                            "pier_to_text", "pier_from_text"};
 
 /* The call to make, and the refusal that it brought. */
 static struct {
     service service;
-    const table *table;
+    const uint8_t *bytes; /* of the table, or of the text */
+    size_t length;
     uint32_t number, first, second; /* a row or question; masks, or a budget */
     size_t room;                    /* of the output */
     uint32_t refusal;
@@ -46,9 +53,9 @@ static size_t most[SERVICES];
 
 static void make_call(void)
 {
-    static uint8_t out[MOST_BYTES];
-    const uint8_t *bytes = call.table->bytes;
-    size_t length = call.table->length;
+    static uint8_t out[PIER_TEXT_BYTES];
+    const uint8_t *bytes = call.bytes;
+    size_t length = call.length;
     top = __builtin_frame_address(0);
     switch (call.service) {
     case READ:
@@ -66,22 +73,21 @@ static void make_call(void)
     case STRIKE:
         call.refusal = pier_strike(bytes, length, call.number, out, call.room).refusal;
         break;
-    default:
+    case ENTRY:
         call.refusal = pier_entry(bytes, length, call.number).refusal;
+        break;
+    case TO_TEXT:
+        call.refusal = pier_to_text(bytes, length, out, call.room).refusal;
+        break;
+    default:
+        call.refusal = pier_from_text(bytes, length, out, call.room).refusal;
     }
 }
 
 /* Makes the call on the painted stack, counts what it used, and answers its refusal. */
-static uint32_t measure(service service, const table *table, uint32_t number, uint32_t first,
-                        uint32_t second, size_t room)
+static uint32_t run(void)
 {
     const uint8_t *lowest = stack;
-    call.service = service;
-    call.table = table;
-    call.number = number;
-    call.first = first;
-    call.second = second;
-    call.room = room;
     memset(stack, PAINT, sizeof stack);
     getcontext(&there);
     there.uc_stack.ss_sp = stack;
@@ -92,10 +98,34 @@ static uint32_t measure(service service, const table *table, uint32_t number, ui
     while (*lowest == PAINT) {
         lowest++;
     }
-    if (most[service] < (size_t)(top - lowest)) {
-        most[service] = (size_t)(top - lowest);
+    if (most[call.service] < (size_t)(top - lowest)) {
+        most[call.service] = (size_t)(top - lowest);
     }
     return call.refusal;
+}
+
+/* Measures a call on a table and answers its refusal. */
+static uint32_t measure(service service, const table *table, uint32_t number, uint32_t first,
+                        uint32_t second, size_t room)
+{
+    call.service = service;
+    call.bytes = table->bytes;
+    call.length = table->length;
+    call.number = number;
+    call.first = first;
+    call.second = second;
+    call.room = room;
+    return run();
+}
+
+/* Measures the reading of a text and answers its refusal. */
+static uint32_t measure_text(const uint8_t *text, size_t length, size_t room)
+{
+    call.service = FROM_TEXT;
+    call.bytes = text;
+    call.length = length;
+    call.room = room;
+    return run();
 }
 
 static void add(table *table, unsigned kind, unsigned first, unsigned second)
@@ -121,6 +151,20 @@ static table longest(unsigned asked)
     add(&table, 0x40, asked, asked);
     for (i = 1; i <= LAST_QUESTION; i++) {
         add(&table, 0x43, i - 1, i - 1);
+    }
+    return table;
+}
+
+/* The table with the longest text: the longest words, and the highest numbers. */
+static table wordiest(void)
+{
+    table table = {{0x11, 23}, 2};
+    unsigned i;
+    for (i = 1; i <= LAST_ROW; i++) {
+        add(&table, 0x38, i - 1, i - 1);
+    }
+    for (i = 0; i <= LAST_QUESTION; i++) {
+        add(&table, 0x41, LAST_ROW, LAST_ROW);
     }
     return table;
 }
@@ -155,6 +199,9 @@ static void measure_all(const table *table)
         measure(STRIKE, table, numbers[i], 0, 0, MOST_BYTES);
         measure(ENTRY, table, numbers[i], 0, 0, 0);
     }
+    measure(TO_TEXT, table, 0, 0, 0, 0);
+    measure(TO_TEXT, table, 0, 0, 0, PIER_TEXT_BYTES);
+    measure(FROM_TEXT, table, 0, 0, 0, MOST_BYTES);
 }
 
 /* Ends the program if the tables are not what they are meant to be. */
@@ -166,9 +213,61 @@ static void require(int kept, const char *what)
     }
 }
 
+/* Fills a text from a place on with lines, the last of them perhaps cut short. */
+static void fill(uint8_t *text, size_t place, size_t length, const char *line)
+{
+    size_t i;
+    for (i = place; i < length; i++) {
+        text[i] = (uint8_t)line[(i - place) % strlen(line)];
+    }
+}
+
+/*
+ * Writes and reads the longest text, which `text` begins with; reads a text a hundred
+ * times as long that goes on with questions, its end well spelled, cut short, and
+ * unknown; and reads lines of that length.
+ */
+static void measure_texts(const table *table, uint8_t *text)
+{
+    static const char question[] = "knowledge-at-or-below 255 255\n";
+    size_t line = strlen(question), lines = (LONG_TEXT - PIER_TEXT_BYTES) / line;
+    size_t length = PIER_TEXT_BYTES + lines * line;
+
+    require(measure(TO_TEXT, table, 0, 0, 0, PIER_TEXT_BYTES) == PIER_NO_REFUSAL,
+            "the longest text is written");
+    require(measure(TO_TEXT, table, 0, 0, 0, PIER_TEXT_BYTES - 1) == PIER_OUTPUT_TOO_SHORT,
+            "the longest text takes its length");
+    require(measure_text(text, PIER_TEXT_BYTES, table->length) == PIER_NO_REFUSAL,
+            "the longest text is read");
+    require(measure_text(text, PIER_TEXT_BYTES, table->length - 1) == PIER_OUTPUT_TOO_SHORT,
+            "the table of the longest text takes its length");
+
+    fill(text, PIER_TEXT_BYTES, length, question);
+    require(measure_text(text, length, MOST_BYTES) == PIER_TOO_MANY_QUESTIONS,
+            "a long text has too many questions");
+    require(measure_text(text, length - 1, MOST_BYTES) == PIER_MISSPELT_LINE,
+            "a long text lacks its last line feed");
+    text[length - line] = 'K';
+    require(measure_text(text, length, MOST_BYTES) == PIER_UNKNOWN_WORD,
+            "the last word of a long text is unknown");
+
+    fill(text, strlen("deny "), LONG_TEXT, "1");
+    memcpy(text, "deny ", strlen("deny "));
+    require(measure_text(text, LONG_TEXT, MOST_BYTES) == PIER_UNKNOWN_WORD,
+            "a long number is above 255");
+    fill(text, strlen("deny"), LONG_TEXT, " 0");
+    require(measure_text(text, LONG_TEXT, MOST_BYTES) == PIER_MISSPELT_LINE,
+            "a long line has too many numbers");
+    fill(text, 0, LONG_TEXT, "\n");
+    require(measure_text(text, LONG_TEXT, MOST_BYTES) == PIER_UNKNOWN_WORD,
+            "an empty line has an unknown word");
+}
+
 int main(void)
 {
+    static uint8_t text[LONG_TEXT], out[MOST_BYTES];
     const table open = longest(LAST_ROW), free_row = longest(LAST_ROW - 1), empty = {{0}, 0};
+    const table wordy = wordiest();
     const struct {
         uint32_t refusal;
         table table;
@@ -184,6 +283,8 @@ int main(void)
     /* Made here first, so that linking memcpy and memset at their first use is not counted. */
     pier_counts counts = pier_read(open.bytes, open.length);
     pier_verdict_reply verdict = pier_verdict(open.bytes, open.length, LAST_QUESTION, VISITS);
+    pier_written written = pier_to_text(wordy.bytes, wordy.length, text, sizeof text);
+    pier_written back = pier_from_text(text, written.length, out, sizeof out);
     int status = 0;
     size_t i;
 
@@ -191,6 +292,9 @@ int main(void)
                 counts.predicates == 24,
             "the longest table is accepted");
     require(verdict.reply == PIER_UNFINISHED, "its last question stays open");
+    require(written.length == PIER_TEXT_BYTES, "the longest text is as long as the header says");
+    require(back.length == wordy.length && memcmp(out, wordy.bytes, wordy.length) == 0,
+            "the longest text reads as its table");
     require(measure(STRIKE, &free_row, LAST_ROW, 0, 0, MOST_BYTES) == PIER_NO_REFUSAL,
             "a row is struck from a full table");
 
@@ -198,6 +302,8 @@ int main(void)
     measure_all(&open);
     measure_all(&free_row);
     measure_all(&empty);
+    measure_all(&wordy);
+    measure_texts(&wordy, text);
     for (i = 0; i < sizeof refused / sizeof *refused; i++) {
         require(measure(READ, &refused[i].table, 0, 0, 0, 0) == refused[i].refusal,
                 "a table is refused as it should be");
