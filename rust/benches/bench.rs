@@ -9,7 +9,7 @@ use std::time::{Duration, Instant};
 
 use pierstride_oracle::random::Random;
 use pierstride_oracle::tables::{self, Shape};
-use pierstride_oracle::ROWS;
+use pierstride_oracle::{texts, ROWS};
 
 const SEED: u64 = 1;
 const BATCHES: usize = 5;
@@ -19,19 +19,31 @@ const BATCH: Duration = Duration::from_millis(40);
 const PREDICATES: u8 = 16;
 const VISITS: u32 = (2 << PREDICATES) - 1;
 
+/// How many lines the long texts have.
+const LINES: [usize; 2] = [1000, 1_000_000];
+
 const YES: u32 = 0b0101_0101_0101_0101;
 const KNOWN: u32 = 0b0000_1111_1111_0000;
 
 fn main() {
     println!("The library against the same method in plain Rust, {}.", std::env::consts::ARCH);
     println!(
-        "Each call starts from the table's bytes. Output buffers are not cleared between calls."
+        "Each call starts from the table's bytes, or from the text's. Output buffers are not \
+         cleared between calls."
     );
     println!("A walk makes {VISITS} visits and is given per visit.");
     println!();
     println!("rows  bytes  call             library ns      Rust ns  library/Rust");
     for rows in [16, 64, ROWS] {
         time_calls(rows, &table(rows));
+    }
+    println!();
+    println!("A text with more lines than a table may have is read to its end before it is");
+    println!("refused, and is given per line.");
+    println!();
+    println!("  lines     bytes  call               library ns   Rust ns  library/Rust");
+    for lines in LINES {
+        time_long_text(lines);
     }
 }
 
@@ -54,7 +66,8 @@ fn table(rows: usize) -> Vec<u8> {
 fn time_calls(rows: usize, table: &[u8]) {
     let row = rows as u32 - 2;
     let (known, yes) = (KNOWN, KNOWN & YES);
-    let (mut out, mut oracle_out) = (vec![0; table.len()], vec![0; table.len()]);
+    let text = texts::spelling(table);
+    let (mut out, mut oracle_out) = (vec![0; text.len()], vec![0; text.len()]);
     let struck = (0..rows as u32)
         .find(|&row| pierstride_oracle::strike(table, row, &mut out).is_ok())
         .expect("a row that no entry names");
@@ -93,6 +106,29 @@ fn time_calls(rows: usize, table: &[u8]) {
         "strike",
         time(|| pierstride::strike(hide(table), struck, hide(&mut out))),
         time(|| pierstride_oracle::strike(hide(table), struck, hide(&mut oracle_out))),
+    );
+    report(
+        "to text",
+        time(|| pierstride::to_text(hide(table), hide(&mut out))),
+        time(|| pierstride_oracle::to_text(hide(table), hide(&mut oracle_out))),
+    );
+    report(
+        "from text",
+        time(|| pierstride::from_text(hide(&text), hide(&mut out))),
+        time(|| pierstride_oracle::from_text(hide(&text), hide(&mut oracle_out))),
+    );
+}
+
+/// Times the reading of a text of so many lines, those of a table over and over.
+fn time_long_text(lines: usize) {
+    let once = texts::spelling(&table(ROWS));
+    let text = texts::lines(&once).into_iter().cycle().take(lines).collect::<Vec<_>>().concat();
+    let library = time(|| pierstride::from_text(hide(&text), &mut [])) / lines as f64;
+    let oracle = time(|| pierstride_oracle::from_text(hide(&text), &mut [])) / lines as f64;
+    println!(
+        "{lines:>7}  {:>8}  from text, a line  {library:>10.1}  {oracle:>8.1}  {:>12.2}",
+        text.len(),
+        library / oracle
     );
 }
 

@@ -7,13 +7,14 @@
 mod library;
 
 use std::collections::BTreeMap;
-use std::time::{SystemTime, UNIX_EPOCH};
+use std::time::{Duration, Instant, SystemTime, UNIX_EPOCH};
 
 use pierstride_oracle::call::{self, Answer, Call};
-use pierstride_oracle::calls::random_call;
+use pierstride_oracle::calls::{random_call, reading_a_text};
 use pierstride_oracle::random::Random;
 use pierstride_oracle::tables::{self, Mixture};
-use pierstride_oracle::{crafted, laws, limits, Verdict, OF_READING};
+use pierstride_oracle::{crafted, laws, limits, lines, texts};
+use pierstride_oracle::{Verdict, OF_READING, OF_READING_A_TEXT};
 
 /// How many random calls each test makes; the laws and walks come on top.
 const RANDOM_CALLS: usize = 300_000;
@@ -22,6 +23,8 @@ const TABLES_FOR_LAWS: usize = 150;
 const TABLES_TO_READ: usize = 2000;
 const TABLES_TO_WALK: usize = 30;
 const MOST_PREDICATES_WALKED: u8 = 12;
+const RANDOM_TEXTS: usize = 20_000;
+const MANY_LINES: usize = 1_000_000;
 
 #[test]
 fn agrees_from_a_fixed_seed() {
@@ -64,6 +67,56 @@ fn agrees_on_numbers_around_every_limit() {
     }
 }
 
+#[test]
+fn agrees_around_every_rule_of_spelling() {
+    let mut random = Random::new(0x4C32);
+    let mut comparison = Comparison::default();
+    for text in lines::texts() {
+        comparison.check_text(&mut random, &text);
+    }
+}
+
+#[test]
+fn agrees_on_the_longest_text() {
+    let mut comparison = Comparison::default();
+    let table = crafted::longest_text();
+    comparison.check_round_trip(&table);
+    let mut text = [0; pierstride::TEXT_BYTES];
+    assert_eq!(pierstride::to_text(&table, &mut text), Ok(text.len()));
+    for room in 0..=table.len() + 1 {
+        comparison.compare(&text, Call::FromText { room });
+    }
+    for room in text.len() - 100..=text.len() + 1 {
+        comparison.compare(&table, Call::ToText { room });
+    }
+}
+
+/// The cost of reading a text grows with its length alone. Ten times the lines take
+/// about ten times the time, and would take a hundred times if each line cost as much
+/// as there are lines; the limit lies between these.
+#[test]
+fn agrees_on_a_million_lines_in_time() {
+    let mut comparison = Comparison::default();
+    for (text, refusal) in lines::long(MANY_LINES) {
+        let answer = comparison.compare(&text, Call::FromText { room: 0 });
+        assert_eq!(answer, Answer::Refused(refusal));
+    }
+    let [short, long] = [MANY_LINES / 10, MANY_LINES].map(time_to_read);
+    println!("{} lines: {short:?}; {MANY_LINES} lines: {long:?}", MANY_LINES / 10);
+    assert!(long < 40 * short, "ten times the lines took {short:?} and then {long:?}");
+}
+
+/// The best time of several in which the library reads a text of so many lines.
+fn time_to_read(count: usize) -> Duration {
+    let (text, _) = &lines::long(count)[0];
+    let time = |_| {
+        let start = Instant::now();
+        pierstride::from_text(text, &mut []).expect_err("more lines than a table may have");
+        start.elapsed()
+    };
+    (0..5).map(time).min().unwrap_or_default()
+}
+
 fn fresh_seed() -> u64 {
     match std::env::var("PIERSTRIDE_SEED") {
         Ok(seed) => seed.parse().expect("PIERSTRIDE_SEED must be a decimal number"),
@@ -92,6 +145,13 @@ fn run(name: &str, seed: u64) {
         let table = mixture.table(&mut random);
         comparison.check_reading(&mut random, &table);
     }
+    println!("{name}: texts, and their laws");
+    let mixture = texts::Mixture::default();
+    for _ in 0..RANDOM_TEXTS {
+        let text = mixture.text(&mut random);
+        comparison.compare(&text, reading_a_text(&mut random, &text));
+        comparison.check_text(&mut random, &text);
+    }
     comparison.report(name);
 }
 
@@ -108,6 +168,9 @@ fn make_random_calls(
         let table = mixture.table(random);
         for _ in 0..CALLS_PER_TABLE {
             comparison.compare(&table, random_call(random, &table));
+        }
+        if pierstride::read(&table).is_ok() {
+            comparison.check_round_trip(&table);
         }
     }
 }
@@ -140,17 +203,18 @@ struct Comparison {
 impl Comparison {
     /// Makes a call on the library, safely and through C, and on the oracle; all
     /// must agree.
-    fn compare(&mut self, table: &[u8], call: Call) -> Answer {
-        let expected = call::answer(table, call);
-        // Bytes that an entry could go on with stand behind the lent table, so
-        // that an answer which looked at them would differ.
-        let longer = [table, &[0; 4]].concat();
-        let lent = &longer[..table.len()];
+    fn compare(&mut self, input: &[u8], call: Call) -> Answer {
+        let expected = call::answer(input, call);
+        // Bytes that an entry or a line could go on with stand behind the lent input,
+        // so that an answer which looked at them would differ.
+        let behind = if let Call::FromText { .. } = call { b'\n' } else { 0 };
+        let longer = [input, &[behind; 4]].concat();
+        let lent = &longer[..input.len()];
         let found = library::answer(lent, call);
-        assert_eq!(found, expected, "{call:?} on {table:02x?}");
+        assert_eq!(found, expected, "{}", call.on(input));
         let fields = library::fields(lent, call);
         let expected_fields = library::expected_fields(call, &expected);
-        assert_eq!(fields, expected_fields, "{call:?} on {table:02x?}");
+        assert_eq!(fields, expected_fields, "{}", call.on(input));
         *self.met.entry((call.name(), expected.label())).or_default() += 1;
         found
     }
@@ -158,6 +222,16 @@ impl Comparison {
     /// Checks the laws of reading on the library's answers.
     fn check_reading(&mut self, random: &mut Random, table: &[u8]) {
         laws::check_reading(&mut |table: &[u8], call| self.compare(table, call), random, table);
+    }
+
+    /// Checks on the library's answers that a table's text is read as the table.
+    fn check_round_trip(&mut self, table: &[u8]) {
+        laws::check_round_trip(&mut |input: &[u8], call| self.compare(input, call), table);
+    }
+
+    /// Checks the laws of reading a text on the library's answers.
+    fn check_text(&mut self, random: &mut Random, text: &[u8]) {
+        laws::check_text(&mut |input: &[u8], call| self.compare(input, call), random, text);
     }
 
     /// Prints how often each answer was met, and fails if one never was or if
@@ -178,18 +252,24 @@ impl Comparison {
     }
 }
 
-/// Every answer that each call may give, beside the refusals of reading.
+/// Every answer that each call may give.
 fn every_answer() -> Vec<(&'static str, Vec<String>)> {
-    let answers: [(_, Vec<String>, &[u32]); 6] = [
-        ("read", vec!["accepted".into()], &[]),
-        ("decide", (0..4).map(|code| format!("code {code}")).collect(), &[8, 10]),
-        ("possible", (1..16).map(|mask| format!("set {mask}")).collect(), &[8, 10]),
-        ("verdict", ["holds", "fails", "unfinished"].map(String::from).to_vec(), &[8]),
-        ("strike", vec!["struck".into()], &[8, 9, 11]),
-        ("entry", (1..4).map(|length| format!("part of {length}")).collect(), &[8]),
+    let numbered = |name, numbers: std::ops::Range<u32>| -> Vec<String> {
+        numbers.map(|number| format!("{name} {number}")).collect()
+    };
+    let written = || vec!["written".to_string()];
+    let answers: [(_, Vec<String>, &[u32], &[u32]); 8] = [
+        ("read", vec!["accepted".into()], &OF_READING, &[]),
+        ("decide", numbered("code", 0..4), &OF_READING, &[8, 10]),
+        ("possible", numbered("set", 1..16), &OF_READING, &[8, 10]),
+        ("verdict", ["holds", "fails", "unfinished"].map(String::from).into(), &OF_READING, &[8]),
+        ("strike", written(), &OF_READING, &[8, 9, 11]),
+        ("entry", numbered("part of", 1..4), &OF_READING, &[8]),
+        ("to text", written(), &OF_READING, &[11]),
+        ("from text", written(), &OF_READING_A_TEXT, &[11]),
     ];
-    let with_refusals = |(call, mut labels, own): (_, Vec<String>, &[u32])| {
-        let refusals = OF_READING.iter().chain(own);
+    let with_refusals = |(call, mut labels, of_reading, own): (_, Vec<String>, &[u32], &[u32])| {
+        let refusals = of_reading.iter().chain(own);
         labels.extend(refusals.map(|number| format!("refusal {number}")));
         (call, labels)
     };

@@ -1,10 +1,12 @@
 //! Calls and answers as plain values, the same for every implementation.
 
+use std::fmt::Debug;
 use std::ops::Range;
 
 use crate::{Refusal, Verdict};
 
-/// One of the six calls, with everything it takes beside the table.
+/// One of the eight calls, with everything it takes beside its input. That is a
+/// text for `FromText` and a table for every other.
 #[derive(Clone, Copy, Debug)]
 pub enum Call {
     Read,
@@ -29,6 +31,14 @@ pub enum Call {
     Entry {
         row: u32,
     },
+    /// `room` is as for `Strike`.
+    ToText {
+        room: usize,
+    },
+    /// `room` is as for `Strike`.
+    FromText {
+        room: usize,
+    },
 }
 
 impl Call {
@@ -40,6 +50,16 @@ impl Call {
             Call::Verdict { .. } => "verdict",
             Call::Strike { .. } => "strike",
             Call::Entry { .. } => "entry",
+            Call::ToText { .. } => "to text",
+            Call::FromText { .. } => "from text",
+        }
+    }
+
+    /// The call and its input, for a reader.
+    pub fn on(self, input: &[u8]) -> String {
+        match self {
+            Call::FromText { .. } => format!("{self:?} on \"{}\"", input.escape_ascii()),
+            _ => format!("{self:?} on {input:02x?}"),
         }
     }
 }
@@ -58,7 +78,7 @@ pub enum Answer {
     Set(u32),
     Verdict(Verdict),
     /// The bytes that were written.
-    Struck(Vec<u8>),
+    Written(Vec<u8>),
     /// Where the entry lies in the table.
     Entry(Range<usize>),
     Refused(Refusal),
@@ -74,55 +94,79 @@ impl Answer {
             Answer::Verdict(Verdict::Holds { .. }) => "holds".to_string(),
             Answer::Verdict(Verdict::Fails { .. }) => "fails".to_string(),
             Answer::Verdict(Verdict::Unfinished { .. }) => "unfinished".to_string(),
-            Answer::Struck(_) => "struck".to_string(),
+            Answer::Written(_) => "written".to_string(),
             Answer::Entry(part) => format!("part of {}", part.len()),
             Answer::Refused(refusal) => format!("refusal {}", refusal.number),
         }
     }
 }
 
-/// Makes a call on this crate's own implementation.
-pub fn answer(table: &[u8], call: Call) -> Answer {
-    try_answer(table, call).unwrap_or_else(Answer::Refused)
+/// An input, a call on it, and what it must answer.
+pub type Case = (Vec<u8>, Call, Answer);
+
+/// Checks that `answer` answers every case as it must.
+pub fn check(cases: Vec<Case>, answer: impl Fn(&[u8], Call) -> Answer) {
+    for (input, call, expected) in cases {
+        assert_eq!(answer(&input, call), expected, "{}", call.on(&input));
+    }
 }
 
-fn try_answer(table: &[u8], call: Call) -> Result<Answer, Refusal> {
+/// Makes a call on this crate's own implementation.
+pub fn answer(input: &[u8], call: Call) -> Answer {
+    try_answer(input, call).unwrap_or_else(Answer::Refused)
+}
+
+fn try_answer(input: &[u8], call: Call) -> Result<Answer, Refusal> {
     Ok(match call {
         Call::Read => {
-            let table = crate::read(table)?;
+            let table = crate::read(input)?;
             Answer::Counts {
                 rows: table.rows.len() as u32,
                 questions: table.questions.len() as u32,
                 predicates: table.predicates(),
             }
         }
-        Call::Decide { row, yes } => Answer::Code(crate::decide(table, row, yes)?.code()),
+        Call::Decide { row, yes } => Answer::Code(crate::decide(input, row, yes)?.code()),
         Call::Possible { row, known, yes } => {
-            Answer::Set(crate::possible(table, row, known, yes)?.mask())
+            Answer::Set(crate::possible(input, row, known, yes)?.mask())
         }
         Call::Verdict { question, budget } => {
-            Answer::Verdict(crate::verdict(table, question, budget)?)
+            Answer::Verdict(crate::verdict(input, question, budget)?)
         }
-        Call::Strike { row, room } => lend(room, |out| crate::strike(table, row, out))?,
-        Call::Entry { row } => Answer::Entry(crate::entry(table, row)?),
+        Call::Strike { row, room } => lend(room, |out| crate::strike(input, row, out))?,
+        Call::Entry { row } => Answer::Entry(crate::entry(input, row)?),
+        Call::ToText { room } => lend(room, |out| crate::to_text(input, out))?,
+        Call::FromText { room } => lend(room, |out| crate::from_text(input, out))?,
     })
 }
 
 /// Patterned bytes before and behind a lent output, to see writing outside it.
 const MARGIN: usize = 16;
 
-fn pattern(place: usize) -> u8 {
-    (place as u8).wrapping_mul(37) ^ 0xA5
+/// Two patterns that differ in every byte, so that a byte which is overwritten with
+/// what it had in one of them shows in the other.
+const PATTERNS: [fn(usize) -> u8; 2] =
+    [|place| (place as u8).wrapping_mul(37) ^ 0xA5, |place| (place as u8).wrapping_mul(37) ^ 0x5A];
+
+/// Lends `write` an output of `room` bytes, once in each pattern. It answers how
+/// many bytes it wrote, and the answer is those bytes. Panics if any other byte is
+/// changed, or if what the output held makes a difference.
+pub fn lend<Refused: PartialEq + Debug>(
+    room: usize,
+    mut write: impl FnMut(&mut [u8]) -> Result<usize, Refused>,
+) -> Result<Answer, Refused> {
+    let [one, other] = PATTERNS.map(|pattern| lend_patterned(pattern, room, &mut write));
+    assert_eq!(one, other, "what the output held makes a difference");
+    one.map(Answer::Written)
 }
 
-/// Lends a patterned output of `room` bytes to `strike`, which answers how many
-/// it wrote, and takes those bytes. Panics if any other byte is changed.
-pub fn lend<Refused>(
+fn lend_patterned<Refused>(
+    pattern: fn(usize) -> u8,
     room: usize,
-    strike: impl FnOnce(&mut [u8]) -> Result<usize, Refused>,
-) -> Result<Answer, Refused> {
+    write: &mut impl FnMut(&mut [u8]) -> Result<usize, Refused>,
+) -> Result<Vec<u8>, Refused> {
     let mut bytes: Vec<u8> = (0..MARGIN + room + MARGIN).map(pattern).collect();
-    let result = strike(&mut bytes[MARGIN..MARGIN + room]);
+    let result = write(&mut bytes[MARGIN..MARGIN + room]);
     let length = *result.as_ref().unwrap_or(&0);
     assert!(length <= room, "{length} bytes written to {room}");
     let written = MARGIN..MARGIN + length;
@@ -130,5 +174,5 @@ pub fn lend<Refused>(
         let kept = written.contains(&place) || byte == pattern(place);
         assert!(kept, "byte {place} changed, outside {written:?}");
     }
-    result.map(|_| Answer::Struck(bytes[written].to_vec()))
+    result.map(|_| bytes[written].to_vec())
 }

@@ -2,13 +2,14 @@
 
 use crate::call::Call;
 use crate::random::Random;
-use crate::{entry, read, verdict, Verdict, PREDICATES, QUESTIONS, ROWS};
+use crate::{entry, from_text, read, to_text, verdict, Verdict};
+use crate::{PREDICATES, QUESTIONS, ROWS, TABLE_BYTES, TEXT_BYTES};
 
 /// A random call that suits the table, whether that is accepted or not.
 pub fn random_call(random: &mut Random, table: &[u8]) -> Call {
     let (rows, questions) =
         read(table).map_or((0, 0), |table| (table.rows.len(), table.questions.len()));
-    match random.below(8) {
+    match random.below(9) {
         0 => Call::Read,
         1 | 2 => Call::Decide { row: around(random, rows), yes: yes_mask(random) },
         3 | 4 => {
@@ -23,11 +24,21 @@ pub fn random_call(random: &mut Random, table: &[u8]) -> Call {
         }
         6 => {
             let row = around(random, rows);
-            let room = room(random, table, row);
-            Call::Strike { row, room }
+            let need = entry(table, row).map_or(0, |part| table.len() - part.len());
+            Call::Strike { row, room: room(random, need, table.len()) }
+        }
+        7 => {
+            let need = to_text(table, &mut [0; TEXT_BYTES]).unwrap_or(0);
+            Call::ToText { room: room(random, need, TEXT_BYTES) }
         }
         _ => Call::Entry { row: around(random, rows) },
     }
+}
+
+/// A call that reads a text, with a random room.
+pub fn reading_a_text(random: &mut Random, text: &[u8]) -> Call {
+    let need = from_text(text, &mut [0; TABLE_BYTES]).unwrap_or(0);
+    Call::FromText { room: room(random, need, TABLE_BYTES) }
 }
 
 /// Mostly a number below `count`, else one at or past some limit.
@@ -82,9 +93,9 @@ fn budget(random: &mut Random, table: &[u8], question: u32, rows: usize) -> u32 
     }
 }
 
-/// Mostly the length of the struck table or one beside it, else any length.
-fn room(random: &mut Random, table: &[u8], row: u32) -> usize {
-    let need = entry(table, row).map_or(0, |part| table.len() - part.len());
-    let any = random.below(table.len() + 8);
-    random.pick(&[0, any, need.saturating_sub(1), need, need + 1, table.len()])
+/// Mostly the length that is needed or one beside it, else one that is always
+/// enough, or any.
+fn room(random: &mut Random, need: usize, enough: usize) -> usize {
+    let any = random.below(enough + 8);
+    random.pick(&[0, any, need.saturating_sub(1), need, need + 1, enough])
 }

@@ -1,7 +1,8 @@
-//! Tables made for a purpose: walks of a known length, and every set there is.
+//! Tables made for a purpose: walks of a known length, every set there is, and the
+//! longest text.
 
 use crate::kinds::*;
-use crate::QUESTIONS;
+use crate::{QUESTIONS, ROWS};
 
 /// A table whose last row grants if an odd number of `count` predicates is yes
 /// and otherwise denies. As long as a predicate is unknown that row may grant or
@@ -63,4 +64,16 @@ pub fn operators_on_every_set() -> Vec<Vec<u8>> {
         put(&COMPARISONS, pairs);
     }
     tables
+}
+
+/// The table with the longest text: every entry has the longest word that it can
+/// have, and the highest numbers. The first row can name no row.
+pub fn longest_text() -> Vec<u8> {
+    let mut bytes = vec![0x11, 23];
+    for number in 1..ROWS {
+        let before = (number - 1) as u8;
+        bytes.extend([0x38, before, before]);
+    }
+    bytes.extend([0x41, 255, 255].repeat(QUESTIONS));
+    bytes
 }

@@ -1,5 +1,6 @@
 //! The listed kinds, and what numbers their bodies have: said a second time beside
-//! `table`, so that tests of reading do not rest on it.
+//! `table`, so that tests of reading do not rest on it. The kinds' words stand here
+//! alone.
 
 use crate::refusal::{MAY_NOT_BE_NAMED, PREDICATE_TOO_HIGH};
 use crate::PREDICATES;
@@ -41,6 +42,57 @@ pub const LISTED: [Group; 7] = [
     Group { kinds: &[NOT], is_question: true, length: 1, names: Named::Question },
     Group { kinds: &[BOTH], is_question: true, length: 2, names: Named::Question },
 ];
+
+/// Declares the words from one list: each listed kind and the word for it.
+macro_rules! words {
+    ($($kind:literal: $word:literal,)*) => {
+        /// Every listed kind and its word.
+        pub const WORDS: [(u8, &[u8]); 24] = [$(($kind, $word)),*];
+
+        /// The word for a kind, if that is listed.
+        pub fn word_of(kind: u8) -> Option<&'static [u8]> {
+            match kind {
+                $($kind => Some($word),)*
+                _ => None,
+            }
+        }
+
+        /// The kind that a word stands for, if it stands for one.
+        pub fn kind_of(word: &[u8]) -> Option<u8> {
+            match word {
+                $($word => Some($kind),)*
+                _ => None,
+            }
+        }
+    };
+}
+
+words! {
+    0x00: b"unspecified",
+    0x01: b"deny",
+    0x02: b"grant",
+    0x03: b"conflict",
+    0x10: b"deny-if",
+    0x11: b"grant-if",
+    0x20: b"negation",
+    0x21: b"conflation",
+    0x22: b"closed-default",
+    0x23: b"open-default",
+    0x30: b"truth-meet",
+    0x31: b"truth-join",
+    0x32: b"knowledge-meet",
+    0x33: b"knowledge-join",
+    0x34: b"implication",
+    0x35: b"guard",
+    0x38: b"override-unspecified",
+    0x39: b"override-deny",
+    0x3A: b"override-grant",
+    0x3B: b"override-conflict",
+    0x40: b"truth-at-or-below",
+    0x41: b"knowledge-at-or-below",
+    0x42: b"not",
+    0x43: b"both",
+}
 
 /// Kinds that are not listed.
 pub const NOT_LISTED: [u8; 8] = [0x04, 0x0F, 0x12, 0x24, 0x36, 0x3C, 0x44, 0xFF];

@@ -5,6 +5,10 @@
 //! is formed. Those of reading are tried on given and on random bytes, and go by
 //! the list of kinds in `kinds`, not by the implementation's own.
 
+mod texts;
+
+pub use self::texts::{check_round_trip, check_text};
+
 use crate::call::{Answer, Call};
 use crate::calls::random_call;
 use crate::kinds::{Group, NOT_LISTED};
@@ -89,7 +93,7 @@ impl Desk<'_> {
     fn strike(&mut self, bytes: &[u8], row: usize) -> Option<Vec<u8>> {
         let (row, room) = (row as u32, bytes.len());
         match (self.answer)(bytes, Call::Strike { row, room }) {
-            Answer::Struck(struck) => Some(struck),
+            Answer::Written(struck) => Some(struck),
             Answer::Refused(refusal) if refusal.number == refusal::ROW_IS_NAMED => None,
             other => panic!("{other:?} for a strike"),
         }

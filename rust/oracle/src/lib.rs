@@ -1,19 +1,21 @@
 //! A second implementation of Pierstride's specification, which is document 01
-//! with request L1 of document 02.
+//! with requests L1 and L2 of document 02 and the words that `docs/WORDS.md` lists.
 //!
 //! It is written from these alone and as plainly as possible, so that it can be
 //! checked by reading; the library is then compared with it. It uses the library's
-//! method (each row is formed once per visit from the rows before it), so it is
-//! also what the benchmark times the library against.
+//! method (each row is formed once per visit from the rows before it, a text is read
+//! line by line), so it is also what the benchmark times the library against.
 //!
 //! The first group of modules is that implementation. The second group is what
 //! tests share, so that every implementation meets the same tests:
 //!
 //! - [`call`]: calls and answers as plain values;
-//! - [`notebook`]: the cases that document 01 lists;
-//! - [`random`], [`tables`], [`calls`]: random numbers, tables and calls;
-//! - [`kinds`]: the listed kinds, and what numbers their bodies have;
+//! - [`notebook`], [`spellings`]: the cases that document 01 and request L2 list;
+//! - [`random`], [`tables`], [`texts`], [`calls`]: random numbers, tables, texts and
+//!   calls;
+//! - [`kinds`]: the listed kinds, what numbers their bodies have, and their words;
 //! - [`limits`], [`crafted`]: tables made for a purpose;
+//! - [`lines`]: texts made for a purpose;
 //! - [`laws`]: what must be true of any right implementation, by brute force.
 
 mod decide;
@@ -23,6 +25,7 @@ mod refusal;
 mod request;
 mod strike;
 mod table;
+mod text;
 mod walk;
 
 pub mod call;
@@ -31,14 +34,18 @@ pub mod crafted;
 pub mod kinds;
 pub mod laws;
 pub mod limits;
+pub mod lines;
 pub mod notebook;
 pub mod random;
+pub mod spellings;
 pub mod tables;
+pub mod texts;
 
 pub use crate::decide::{decide, truths};
 pub use crate::decision::Decision;
 pub use crate::possible::{possible, DecisionSet};
-pub use crate::refusal::{Refusal, OF_READING};
+pub use crate::refusal::{Refusal, OF_READING, OF_READING_A_TEXT};
 pub use crate::strike::{entry, strike};
-pub use crate::table::{read, Table, PREDICATES, QUESTIONS, ROWS};
+pub use crate::table::{read, Table, PREDICATES, QUESTIONS, ROWS, TABLE_BYTES};
+pub use crate::text::{from_text, to_text, TEXT_BYTES};
 pub use crate::walk::{verdict, Verdict};

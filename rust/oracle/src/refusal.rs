@@ -1,7 +1,8 @@
-//! The eleven refusals.
+//! The thirteen refusals.
 
 /// A refusal: its number and its place. For 3 and 4 that is the place of a number,
-/// for the others of reading the place of a kind byte.
+/// for the others of reading the place of a kind byte. Where a text is read, every
+/// place but that of 11 is the number of a line, from 1.
 #[derive(Clone, Copy, Debug, PartialEq, Eq)]
 pub struct Refusal {
     pub number: u32,
@@ -26,11 +27,27 @@ pub const NOT_THERE: u32 = 8;
 pub const ROW_IS_NAMED: u32 = 9;
 pub const BAD_MASK: u32 = 10;
 pub const OUTPUT_TOO_SHORT: u32 = 11;
+/// An unknown word, or a number above 255.
+pub const UNKNOWN_WORD: u32 = 12;
+/// Any other spelling that is not the writer's.
+pub const MISSPELT_LINE: u32 = 13;
 
 /// The refusals that reading a table gives.
 pub const OF_READING: [u32; 7] = [
     KIND_NOT_LISTED,
     BODY_CUT_SHORT,
+    PREDICATE_TOO_HIGH,
+    MAY_NOT_BE_NAMED,
+    ROW_AFTER_QUESTION,
+    TOO_MANY_ROWS,
+    TOO_MANY_QUESTIONS,
+];
+
+/// The refusals that reading a text gives: those of its spelling, then those of
+/// reading a table that well-spelled bytes can bring.
+pub const OF_READING_A_TEXT: [u32; 7] = [
+    UNKNOWN_WORD,
+    MISSPELT_LINE,
     PREDICATE_TOO_HIGH,
     MAY_NOT_BE_NAMED,
     ROW_AFTER_QUESTION,

@@ -3,7 +3,7 @@
 use std::ops::Range;
 
 use crate::refusal::{Refusal, OUTPUT_TOO_SHORT, ROW_IS_NAMED};
-use crate::table::{read, Kind};
+use crate::table::{entries, read, Entry};
 
 /// Where the bytes of row `row` lie in the table.
 pub fn entry(bytes: &[u8], row: u32) -> Result<Range<usize>, Refusal> {
@@ -31,13 +31,6 @@ pub fn strike(bytes: &[u8], row: u32, out: &mut [u8]) -> Result<usize, Refusal> 
     Ok(end)
 }
 
-/// An entry of a table that has been read without a refusal.
-#[derive(Clone, Copy)]
-struct Entry<'a> {
-    kind: Kind,
-    bytes: &'a [u8],
-}
-
 impl Entry<'_> {
     fn names(self, row: usize) -> bool {
         let body = &self.bytes[1..];
@@ -56,18 +49,6 @@ impl Entry<'_> {
         }
         out.len()
     }
-}
-
-/// The entries of a table that has been read without a refusal. Rows come
-/// before questions, so row r is also entry r.
-fn entries(bytes: &[u8]) -> impl Iterator<Item = Entry<'_>> {
-    let mut rest = bytes;
-    std::iter::from_fn(move || {
-        let kind = Kind::of(*rest.first()?)?;
-        let (bytes, after) = rest.split_at(1 + kind.body_length());
-        rest = after;
-        Some(Entry { kind, bytes })
-    })
 }
 
 /// Where row `row`, which is there, lies.

@@ -9,6 +9,8 @@ pub const PREDICATES: usize = 24;
 pub const ROWS: usize = 256;
 /// The most questions a table may have.
 pub const QUESTIONS: usize = 64;
+/// So many bytes are always enough for a table.
+pub const TABLE_BYTES: usize = 3 * (ROWS + QUESTIONS);
 
 /// What the first byte of an entry says about it.
 #[derive(Clone, Copy, Debug)]
@@ -98,7 +100,7 @@ pub struct Table {
 }
 
 impl Table {
-    fn empty() -> Table {
+    pub(crate) fn empty() -> Table {
         Table { rows: Vec::with_capacity(ROWS), questions: Vec::with_capacity(QUESTIONS) }
     }
 
@@ -122,7 +124,7 @@ impl Table {
     }
 
     /// Reads the entry whose kind byte is at `place` and answers where it ends.
-    fn read_entry(&mut self, bytes: &[u8], place: usize) -> Result<usize, Refusal> {
+    pub(crate) fn read_entry(&mut self, bytes: &[u8], place: usize) -> Result<usize, Refusal> {
         let at_kind_byte = |number| Refusal { number, place };
         let kind = Kind::of(bytes[place]).ok_or(at_kind_byte(refusal::KIND_NOT_LISTED))?;
         self.check_room_for(kind).map_err(at_kind_byte)?;
@@ -207,4 +209,24 @@ pub fn read(bytes: &[u8]) -> Result<Table, Refusal> {
         place = table.read_entry(bytes, place)?;
     }
     Ok(table)
+}
+
+/// An entry of a table that has been read without a refusal.
+#[derive(Clone, Copy)]
+pub struct Entry<'a> {
+    pub kind: Kind,
+    /// Its kind byte and its body.
+    pub bytes: &'a [u8],
+}
+
+/// The entries of a table that has been read without a refusal. Rows come
+/// before questions, so row r is also entry r.
+pub fn entries(bytes: &[u8]) -> impl Iterator<Item = Entry<'_>> {
+    let mut rest = bytes;
+    std::iter::from_fn(move || {
+        let kind = Kind::of(*rest.first()?)?;
+        let (bytes, after) = rest.split_at(1 + kind.body_length());
+        rest = after;
+        Some(Entry { kind, bytes })
+    })
 }

@@ -1,6 +1,6 @@
 //! The oracle alone: the notebook's cases, the laws, and the generators.
 
-use pierstride_oracle::call::{answer, Answer, Call};
+use pierstride_oracle::call::{self, answer, Answer, Call};
 use pierstride_oracle::limits::Probe;
 use pierstride_oracle::random::Random;
 use pierstride_oracle::tables::{self, Mixture};
@@ -9,7 +9,7 @@ use pierstride_oracle::{Refusal, Verdict, QUESTIONS, ROWS};
 
 #[test]
 fn answers_the_notebook() {
-    notebook::check(answer);
+    call::check(notebook::cases(), answer);
 }
 
 #[test]

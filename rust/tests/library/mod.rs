@@ -5,13 +5,18 @@ use pierstride_oracle::call::{lend, Answer, Call};
 use pierstride_oracle::{Refusal, Verdict};
 
 /// Makes a call through the safe functions.
-pub fn answer(table: &[u8], call: Call) -> Answer {
-    try_answer(table, call).unwrap_or_else(|refusal| {
-        Answer::Refused(Refusal { number: refusal.number, place: refusal.place })
-    })
+pub fn answer(input: &[u8], call: Call) -> Answer {
+    let refused = |number, place| Answer::Refused(Refusal { number, place });
+    if let Call::FromText { room } = call {
+        let written = lend(room, |out| pierstride::from_text(input, out));
+        written.unwrap_or_else(|refusal| refused(refusal.number, refusal.place))
+    } else {
+        let answered = try_on_table(input, call);
+        answered.unwrap_or_else(|refusal| refused(refusal.number, refusal.place))
+    }
 }
 
-fn try_answer(table: &[u8], call: Call) -> Result<Answer, pierstride::Refusal> {
+fn try_on_table(table: &[u8], call: Call) -> Result<Answer, pierstride::Refusal> {
     Ok(match call {
         Call::Read => {
             let counts = pierstride::read(table)?;
@@ -34,6 +39,8 @@ fn try_answer(table: &[u8], call: Call) -> Result<Answer, pierstride::Refusal> {
             let start = part.as_ptr() as usize - table.as_ptr() as usize;
             Answer::Entry(start..start + part.len())
         }
+        Call::ToText { room } => lend(room, |out| pierstride::to_text(table, out))?,
+        Call::FromText { .. } => unreachable!("the input is a text"),
     })
 }
 
@@ -49,8 +56,8 @@ fn verdict(verdict: pierstride::Verdict) -> Verdict {
 pub type Fields = (u32, usize, Vec<usize>);
 
 /// Makes a call on the C functions themselves.
-pub fn fields(table: &[u8], call: Call) -> Fields {
-    let (bytes, length) = (table.as_ptr(), table.len());
+pub fn fields(input: &[u8], call: Call) -> Fields {
+    let (bytes, length) = (input.as_ptr(), input.len());
     // SAFETY: pointers and lengths are those of slices that do not overlap.
     unsafe {
         match call {
@@ -81,8 +88,18 @@ pub fn fields(table: &[u8], call: Call) -> Fields {
                 let reply = raw::pier_entry(bytes, length, row);
                 let end = reply.start.checked_add(reply.length);
                 let within = end.map_or(false, |end| end <= length);
-                assert!(within, "row {row} is not within {table:02x?}: {reply:?}");
+                assert!(within, "row {row} is not within {input:02x?}: {reply:?}");
                 (reply.refusal, reply.place, vec![reply.start, reply.length])
+            }
+            Call::ToText { room } => {
+                let mut out = vec![0; room];
+                let reply = raw::pier_to_text(bytes, length, out.as_mut_ptr(), room);
+                (reply.refusal, reply.place, vec![reply.length])
+            }
+            Call::FromText { room } => {
+                let mut out = vec![0; room];
+                let reply = raw::pier_from_text(bytes, length, out.as_mut_ptr(), room);
+                (reply.refusal, reply.place, vec![reply.length])
             }
         }
     }
@@ -97,12 +114,13 @@ pub fn expected_fields(call: Call, answer: &Answer) -> Fields {
         Answer::Verdict(Verdict::Holds { visits }) => widened([1, 0, visits]),
         Answer::Verdict(Verdict::Fails { request, visits }) => widened([2, request, visits]),
         Answer::Verdict(Verdict::Unfinished { budget }) => widened([3, 0, budget]),
-        Answer::Struck(ref written) => vec![written.len()],
+        Answer::Written(ref written) => vec![written.len()],
         Answer::Entry(ref part) => vec![part.start, part.len()],
         Answer::Refused(Refusal { number, place }) => {
             let count = match call {
                 Call::Read | Call::Verdict { .. } => 3,
-                Call::Decide { .. } | Call::Possible { .. } | Call::Strike { .. } => 1,
+                Call::Decide { .. } | Call::Possible { .. } => 1,
+                Call::Strike { .. } | Call::ToText { .. } | Call::FromText { .. } => 1,
                 Call::Entry { .. } => 2,
             };
             return (number, place, vec![0; count]);
