@@ -32,6 +32,11 @@ pub or-part : {P : Type 0} (p q : Bool) → (p || q) ≡ true → (p ≡ true �
 or-part true q e f g = f refl
 or-part false q e f g = g e
 
+-- one that is false has both parts false
+pub neither : (p q : Bool) → (p || q) ≡ false → (p ≡ false) × (q ≡ false)
+neither true q e = never e
+neither false q e = (refl, e)
+
 -- a test at the four decisions, and at the two orders
 abbrev pub every : (Decision → Bool) → Bool
 every p = (p U && p D) && (p G && p C)

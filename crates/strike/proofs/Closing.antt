@@ -10,7 +10,7 @@ use lib.ListN.{length, getD, take, length-append, length-map, List·getD-map}
 use lib.Seq.{take-suc}
 use lib.Dec.{eqb}
 use borrow.Author.Tests.{eqb-false, ne-eqb}
-use Rattle.belnap.proofs.Finite.{never, or-left, or-right}
+use Rattle.belnap.proofs.Finite.{never, or-left, or-right, neither}
 use Rattle.kinds.specs.declared.Kind.{Kind}
 use Rattle.entries.specs.declared.Entry.{Entry}
 use Rattle.table.specs.declared.steps.Tally.{Tally}
@@ -22,11 +22,6 @@ use Rattle.table.proofs.Writing.{Sound}
 use Rattle.table.proofs.Renaming.{renamed-size, renamed-uses, renamed-sound, first-below, second-below}
 use Rattle.strike.specs.Strike.{lower, old, lowered, without, closedUp, names, namedBy}
 use Rattle.strike.proofs.Renumbering.{without-at, length-without}
-
--- a disjunction that is false has both parts false
-pub neither : (p q : Bool) → (p || q) ≡ false → (p ≡ false) × (q ≡ false)
-neither true q e = absurd (let z : _≡_ {A = ℕ} 0 1 = cc in omega arith)
-neither false q e = (refl, e)
 
 -- an entry that does not name r names other rows
 module _ (r : ℕ) (e : Entry) (n : names r e ≡ false) where

@@ -123,28 +123,29 @@ allowed-if e f before q =
     let names = misnaming-answered e f (offending e before) (room .1) in
     (names .0, record { room = room .0; names = all-named e before (names .1) })
 
--- which refusals are given at the kind byte and which at a number, and that none is given at both
-room-among : (kind : Kind) (before : Tally) → (noRoom kind before ≡ 0 → ⊥) → isAmong atKindByte (noRoom kind before) ≡ true
+-- what holds of 5, 6 and 7 holds of the refusal where there is no room, and what holds of 3 and 4 of that of a number
+room-is : (P : ℕ → Type 0) → P rowAfterQuestion → P tooManyRows → P tooManyQuestions → (kind : Kind) (before : Tally) →
+    (noRoom kind before ≡ 0 → ⊥) → P (noRoom kind before)
 unfolding noRoom
-room-among (Row k) before h = go (ltb 0 (before .questions)) (ltb (before .rows) rowLimit) h
+room-is P five six seven (Row k) before h = go (ltb 0 (before .questions)) (ltb (before .rows) rowLimit) h
   where
-    go : (p q : Bool) → (_≡_ {A = ℕ} (cond p rowAfterQuestion (cond q 0 tooManyRows)) 0 → ⊥) →
-        isAmong atKindByte (cond p rowAfterQuestion (cond q 0 tooManyRows)) ≡ true
-    go true q h = refl
+    go : (p q : Bool) → (_≡_ {A = ℕ} (cond p rowAfterQuestion (cond q 0 tooManyRows)) 0 → ⊥) → P (cond p rowAfterQuestion (cond q 0 tooManyRows))
+    go true q h = five
     go false true h = absurd (h refl)
-    go false false h = refl
-room-among (Question k) before h = go (ltb (before .questions) questionLimit) h
+    go false false h = six
+room-is P five six seven (Question k) before h = go (ltb (before .questions) questionLimit) h
   where
-    go : (p : Bool) → (_≡_ {A = ℕ} (cond p 0 tooManyQuestions) 0 → ⊥) → isAmong atKindByte (cond p 0 tooManyQuestions) ≡ true
+    go : (p : Bool) → (_≡_ {A = ℕ} (cond p 0 tooManyQuestions) 0 → ⊥) → P (cond p 0 tooManyQuestions)
     go true h = absurd (h refl)
-    go false h = refl
+    go false h = seven
 
-pub misnamed-number : (names : Names) → isAmong atNumber (misnamed names) ≡ true
-misnamed-number Nothing = refl
-misnamed-number Predicates = refl
-misnamed-number Rows = refl
-misnamed-number Questions = refl
+pub misnamed-is : (P : ℕ → Type 0) → P predicateTooHigh → P notToBeNamed → (names : Names) → P (misnamed names)
+misnamed-is P three four Nothing = four
+misnamed-is P three four Predicates = three
+misnamed-is P three four Rows = four
+misnamed-is P three four Questions = four
 
+-- no refusal is given both at the kind byte and at a number
 pub numbers-apart : (n : ℕ) → isAmong atNumber n ≡ true → isAmong atKindByte n ≡ false
 numbers-apart n h =
     or-part (eqb n predicateTooHigh) (isAmong (notToBeNamed ∷ []) n) h
@@ -155,7 +156,8 @@ numbers-apart n h =
 pub no-room-or : (kind : Kind) (before : Tally) (x : Said Entry) (why : Refusal) → unless (noRoom kind before) x ≡ refusing why →
     ((isAmong atKindByte (why .number) ≡ true) × (why .place ≡ 0)) ⊎ (x ≡ refusing why)
 no-room-or kind before x why q =
-    ⊎-elim (λ h. inl (rw (← h .1) (room-among kind before (h .0), refl))) inr (unless-refusing (noRoom kind before) x why q)
+    ⊎-elim (λ h. inl (rw (← h .1) (room-is (λ n. isAmong atKindByte n ≡ true) refl refl refl kind before (h .0), refl))) inr
+    (unless-refusing (noRoom kind before) x why q)
 
 -- a number that fits where it stands, and one that does not
 pub fits-below : (numbers below i x : ℕ) → namedAt numbers below i x ≡ true → i < numbers → x < below
@@ -169,33 +171,12 @@ unfit-there numbers below i x h = go (ltb i numbers) refl h
     go false l h = never h
 
 -- an entry that is whole is refused with 3 to 7 alone
-room-own : (kind : Kind) (before : Tally) → (noRoom kind before ≡ 0 → ⊥) → isAmong ofEntries (noRoom kind before) ≡ true
-unfolding noRoom
-room-own (Row k) before h = go (ltb 0 (before .questions)) (ltb (before .rows) rowLimit) h
-  where
-    go : (p q : Bool) → (_≡_ {A = ℕ} (cond p rowAfterQuestion (cond q 0 tooManyRows)) 0 → ⊥) →
-        isAmong ofEntries (cond p rowAfterQuestion (cond q 0 tooManyRows)) ≡ true
-    go true q h = refl
-    go false true h = absurd (h refl)
-    go false false h = refl
-room-own (Question k) before h = go (ltb (before .questions) questionLimit) h
-  where
-    go : (p : Bool) → (_≡_ {A = ℕ} (cond p 0 tooManyQuestions) 0 → ⊥) → isAmong ofEntries (cond p 0 tooManyQuestions) ≡ true
-    go true h = absurd (h refl)
-    go false h = refl
-
-misnamed-own : (names : Names) → isAmong ofEntries (misnamed names) ≡ true
-misnamed-own Nothing = refl
-misnamed-own Predicates = refl
-misnamed-own Rows = refl
-misnamed-own Questions = refl
-
 pub permitted-own : (e : Entry) (before : Tally) (why : Refusal) → permitted e before ≡ refusing why → isAmong ofEntries (why .number) ≡ true
 unfolding permitted
 permitted-own e before why q =
     ⊎-elim
-    (λ h. rw (← h .1) (room-own (e .kind) before (h .0)))
-    (λ h. rw (← misnaming-refusing e (offending e before) why h .1) (misnamed-own (namesOf e)))
+    (λ h. rw (← h .1) (room-is (λ n. isAmong ofEntries n ≡ true) refl refl refl (e .kind) before (h .0)))
+    (λ h. rw (← misnaming-refusing e (offending e before) why h .1) (misnamed-is (λ n. isAmong ofEntries n ≡ true) refl refl (namesOf e)))
     (unless-refusing (noRoom (e .kind) before) (misnaming e (offending e before)) why q)
 
 -- a refusal at an entry points into it

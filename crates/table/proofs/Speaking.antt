@@ -27,7 +27,7 @@ use Rattle.table.specs.Reading.{after, readOn, reading}
 use Rattle.table.specs.Places.{Misnames, Points, Speaks}
 use Rattle.entries.proofs.Numbers.{by-order}
 use Rattle.entries.proofs.Saying.{unless-none, unless-some}
-use Rattle.table.proofs.Permission.{misnamed-number, numbers-apart}
+use Rattle.table.proofs.Permission.{misnamed-is, numbers-apart}
 use Rattle.table.proofs.Decoding.{body-cut, body-whole, step-points, points-from, points-within, points-behind}
 use Rattle.table.proofs.Turns.{bytes-from}
 use Rattle.table.proofs.Writing.{Stopped, of-accepted, of-refused, read-past, whole-accepted}
@@ -161,7 +161,7 @@ module _ (s : List ℕ) (n p : ℕ) (w : Speaks s n p) where
       ∙ rw (step-kept kind-byte behind more (tallyOf (w .before)) (refusal n (p - w .start)) h (w .brings), place))
 
   number-of : Misnames s (w .start) (tallyOf (w .before)) n p → isAmong atNumber n ≡ true
-  number-of m = ap (isAmong atNumber) (m .number-is) ∙ misnamed-number (formOf (m .kind) .names)
+  number-of m = ap (isAmong atNumber) (m .number-is) ∙ misnamed-is (λ n. isAmong atNumber n ≡ true) refl refl (formOf (m .kind) .names)
 
   -- 3 and 4 point to a number, and the others to the kind byte
   pub at-number : isAmong atNumber n ≡ true → Misnames s (w .start) (tallyOf (w .before)) n p

@@ -1,7 +1,7 @@
 -- A line and its entry: an entry's line is read as the entry, and a line that is read as an entry is the entry's.
 -- Assumes nothing.
 use mathlib.Core.Path.{_≡_, refl, sym, ap, ap₂, _∙_}
-use mathlib.Core.Bool.{Bool, true, false, cond, not, _&&_, _||_}
+use mathlib.Core.Bool.{Bool, true, false, cond, not, _&&_}
 use mathlib.Core.List.{List, [], _∷_, _++_, map, append-assoc, append-nil}
 use Prim.Native.Nat.{ℕ, zero, suc, _+_, _≤_, _<_}
 use native.Mathlib.Omega.{arith}
@@ -9,7 +9,7 @@ use lib.ListN.{length, getD, take, length-append, length-map}
 use lib.Seq.{take-length}
 use lib.Dec.{eqb, ltb}
 use borrow.Author.Tests.{eqb-true, eq-eqb, leb-false, lt-ltb}
-use Rattle.belnap.proofs.Finite.{both-parts, never}
+use Rattle.belnap.proofs.Finite.{both-parts, neither}
 use Rattle.kinds.specs.declared.Kind.{Kind}
 use Rattle.kinds.specs.declared.Announced.{Announced}
 use Rattle.kinds.specs.declared.Announced.the-variants.{Listed, Unlisted}
@@ -143,10 +143,6 @@ values-back (p ∷ ps) w =
 value-small : (p : List ℕ) → tooLarge p ≡ false → wellSpelled p ≡ true → value p < numberLimit
 unfolding tooLarge wellSpelled
 value-small p h w = leb-false numberLimit (value p) (rw (both-parts (digitsAlone p) _ w .0) at h)
-
-neither : (p q : Bool) → (p || q) ≡ false → (p ≡ false) × (q ≡ false)
-neither true q h = never h
-neither false q h = (refl, h)
 
 values-small : (ps : List (List ℕ)) → some tooLarge ps ≡ false → every wellSpelled ps ≡ true → (i : ℕ) → getD (map value ps) i 0 < numberLimit
 values-small [] h w i = omega arith

@@ -58,7 +58,7 @@ loop-again c =
 returns-2 : tie.Need-returns-2 Inv-loop μ-loop
 returns-2 c =
     let all = at-end (c .before .before) in
-    c .number-with2 .ensures ∙ sym (said-large _ (all .0) (all .1 .1 (c .before .if2 .taken)))
+    c .number-with2 .ensures ∙ sym (said-large _ (all .0) (all .1 .1 (omega (arith, c .before .if2 .taken))))
 
 returns-3 : tie.Need-returns-3 Inv-loop μ-loop
 returns-3 c =
