@@ -31,7 +31,10 @@
 //! # Ok::<(), pierstride::Refusal>(())
 //! ```
 
+mod kinds;
 pub mod raw;
+
+pub use kinds::{Kind, Numbered, KINDS};
 
 use std::fmt;
 
@@ -77,21 +80,27 @@ macro_rules! refusals {
             pub place: usize,
         }
 
+        impl Refusal {
+            /// Why, in words: with 1 to 7, what is said of what stands at the place.
+            pub fn reason(&self) -> &'static str {
+                match self.number {
+                    $($($number => $reason,)?)*
+                    _ => "unknown reason",
+                }
+            }
+        }
+
         impl fmt::Display for Refusal {
             fn fmt(&self, f: &mut fmt::Formatter) -> fmt::Result {
-                write!(f, "refused {}: ", self.number)?;
-                match self.number {
-                    $($(
-                        $number => {
-                            $(
-                                let pointed_at = stringify!($pointed_at);
-                                write!(f, "the {pointed_at} at place {} ", self.place)?;
-                            )?
-                            f.write_str($reason)
-                        }
-                    )?)*
-                    _ => f.write_str("unknown reason"),
+                let Refusal { number, place } = *self;
+                write!(f, "refused {number}: ")?;
+                match number {
+                    $($($($number => {
+                        write!(f, "the {} at place {place} ", stringify!($pointed_at))?;
+                    })?)?)*
+                    _ => {}
                 }
+                f.write_str(self.reason())
             }
         }
 
@@ -163,6 +172,9 @@ impl std::error::Error for Refusal {}
 
 impl std::error::Error for TextRefusal {}
 
+/// So many predicates there are: 0 to 23.
+pub const PREDICATES: u32 = 24;
+
 /// So many bytes are always enough for a table.
 pub const TABLE_BYTES: usize = 960;
 
@@ -205,9 +217,25 @@ impl Decision {
         }
     }
 
+    /// The decisions, by rising codes.
+    pub const ALL: [Decision; 4] =
+        [Decision::Unspecified, Decision::Deny, Decision::Grant, Decision::Conflict];
+
     /// The decision's code, 0 to 3.
     pub fn code(self) -> u32 {
         self as u32
+    }
+}
+
+/// The decision in a word, with which a text says that a row always decides so.
+impl fmt::Display for Decision {
+    fn fmt(&self, f: &mut fmt::Formatter) -> fmt::Result {
+        f.write_str(match self {
+            Decision::Unspecified => "unspecified",
+            Decision::Deny => "deny",
+            Decision::Grant => "grant",
+            Decision::Conflict => "conflict",
+        })
     }
 }
 
@@ -224,6 +252,11 @@ impl DecisionSet {
     /// Is `decision` in the set?
     pub fn contains(self, decision: Decision) -> bool {
         self.0 >> decision.code() & 1 == 1
+    }
+
+    /// Its members, by rising codes.
+    pub fn members(self) -> impl Iterator<Item = Decision> {
+        Decision::ALL.into_iter().filter(move |&decision| self.contains(decision))
     }
 }
 

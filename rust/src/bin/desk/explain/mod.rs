@@ -1,0 +1,73 @@
+//! A refusal in words that a clerk can act on: the entry, what was found, what is allowed.
+//!
+//! The library alone says what is refused, with which number and where. This only looks for the
+//! words; where it finds none, the package's own message stands.
+
+mod bytes;
+mod call;
+mod text;
+
+pub use bytes::of_bytes;
+pub use call::of_call;
+pub use text::of_text;
+
+use pierstride::{Counts, Kind, Numbered, Refusal};
+
+use crate::table::count;
+use crate::words::counted;
+
+/// An entry that may not stand where it stands.
+struct Bad {
+    /// As it stands there.
+    shown: String,
+    kind: &'static Kind,
+    numbers: Vec<u32>,
+    /// What the table has before it.
+    before: Counts,
+}
+
+impl Bad {
+    /// Why: refusals 3 to 7.
+    fn why(&self, refusal: Refusal) -> String {
+        let allowed = match refusal.number {
+            3 | 4 => return self.misnamed().unwrap_or_else(|| refusal.reason().to_owned()),
+            5 => "all rows stand before all questions".to_owned(),
+            _ => {
+                let is = self.kind.is;
+                format!("a table has at most {}", counted(count(&self.before, is), is))
+            }
+        };
+        format!("{} {}; {allowed}", self.shown, refusal.reason())
+    }
+
+    /// The first number that may not be named there, and which may.
+    fn misnamed(&self) -> Option<String> {
+        let mut named = self.kind.names.iter().zip(&self.numbers);
+        let (names, number) =
+            named.find(|(names, number)| **number >= count(&self.before, **names))?;
+        let allowed = match count(&self.before, *names) {
+            0 => format!("no {names} stands before it"),
+            most => format!("a {} may name {}", self.kind.is, from_zero(*names, most)),
+        };
+        Some(format!("{} names {names} {number}; {allowed}", self.shown))
+    }
+}
+
+/// "row 0", "rows 0 to 5", where there are so many.
+fn from_zero(things: Numbered, count: u32) -> String {
+    match count {
+        1 => format!("{things} 0"),
+        _ => format!("{things}s 0 to {}", count - 1),
+    }
+}
+
+/// "`truth-meet` takes 2 numbers: row, row"
+fn takes(kind: &Kind) -> String {
+    let names: Vec<String> = kind.names.iter().map(Numbered::to_string).collect();
+    match names.len() {
+        0 => format!("`{}` takes no number", kind.word),
+        count => {
+            format!("`{}` takes {}: {}", kind.word, counted(count, "number"), names.join(", "))
+        }
+    }
+}

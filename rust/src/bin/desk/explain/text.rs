@@ -1,0 +1,97 @@
+//! Of a text.
+
+use pierstride::{Kind, Refusal, TextRefusal, KINDS};
+
+use super::{takes, Bad};
+use crate::line::{lines, value, Line};
+use crate::table::bytes_of;
+use crate::trouble::{Place, Refused};
+use crate::words::{counted, listed, meant, quoted, shortened};
+
+const CARRIAGE_RETURN: &str =
+    "ends with a carriage return; a line ends with a line feed alone (Unix line ends)";
+
+pub fn of_text(text: &[u8], refusal: TextRefusal) -> Refused {
+    let TextRefusal { number, place } = refusal;
+    let line = lines(text).nth(place.saturating_sub(1));
+    let message = line.and_then(|line| match (number, line.kind()) {
+        (12, None) => Some(unknown_word(&line)),
+        (12, Some(_)) => too_large(&line),
+        (13, Some(kind)) => Some(misspelt(&line, kind)),
+        (3..=7, Some(kind)) => Some(of_line(text, &line, kind, Refusal { number, place })),
+        _ => None,
+    });
+    let message = message.unwrap_or_else(|| refusal.to_string());
+    Refused { number, place: Place::Line(place), message, hint: None }
+}
+
+fn unknown_word(line: &Line) -> String {
+    let shown = quoted(line.whole);
+    match line.word {
+        [] if line.whole.is_empty() => "the line is empty; take it out".to_owned(),
+        [] => format!("{shown} begins with a space; a line begins with its word"),
+        [b'#', ..] => format!("{shown} is no entry, and a text has no comments; take it out"),
+        [.., b'\r'] => format!("{shown} {CARRIAGE_RETURN}"),
+        word if word.contains(&b'\t') => {
+            format!("{shown} has a tab; a single space stands before each number")
+        }
+        word if line.pieces.is_empty() => format!("{shown} is no word; {}", perhaps(word)),
+        word => {
+            format!("{shown} begins with {}, which is no word; {}", quoted(word), perhaps(word))
+        }
+    }
+}
+
+/// The word that was meant, or all of them.
+fn perhaps(written: &[u8]) -> String {
+    let words = KINDS.iter().map(|kind| kind.word);
+    match meant(written, words.clone()) {
+        Some(word) => format!("perhaps `{word}` was meant"),
+        None => format!("the words are {}", listed(words, "and")),
+    }
+}
+
+fn too_large(line: &Line) -> Option<String> {
+    let most = u8::MAX.into();
+    let mut pieces = line.pieces.iter();
+    let large = pieces.find(|piece| value(piece).map_or(false, |value| value > most))?;
+    let (shown, large) = (quoted(line.whole), shortened(large));
+    Some(format!("{shown} has the number {large}; no number is above {most}"))
+}
+
+fn misspelt(line: &Line, kind: &Kind) -> String {
+    let shown = quoted(line.whole);
+    let count = line.pieces.len();
+    if let Some(found) = (0..count).find_map(|i| misspelt_piece(&line.pieces, i)) {
+        format!("{shown} {found}")
+    } else if count != kind.names.len() {
+        format!("{shown} has {}; {}", counted(count, "number"), takes(kind))
+    } else {
+        format!("{shown} has no line feed behind it; every line ends with one, the last too")
+    }
+}
+
+/// What is wrong with a piece of a line that should be a number.
+fn misspelt_piece(pieces: &[&[u8]], i: usize) -> Option<String> {
+    let shown = quoted(pieces[i]);
+    match (pieces[i], value(pieces[i])) {
+        ([], _) if i + 1 == pieces.len() => {
+            Some("ends with a space; nothing stands behind the last number".to_owned())
+        }
+        ([], _) => Some("has two spaces together; one stands before each number".to_owned()),
+        ([.., b'\r'], _) => Some(CARRIAGE_RETURN.to_owned()),
+        (_, None) => Some(format!("has {shown} for a number; a number is digits alone")),
+        ([b'0', _, ..], Some(value)) => {
+            Some(format!("has the number {shown} with a leading zero; write `{value}`"))
+        }
+        _ => None,
+    }
+}
+
+/// Of a line of a text whose lines are all well spelled.
+fn of_line(text: &[u8], line: &Line, kind: &'static Kind, refusal: Refusal) -> String {
+    let end: usize = lines(text).take(refusal.place - 1).map(|line| line.whole.len() + 1).sum();
+    let before = bytes_of(&text[..end]).expect("what is before the first bad line");
+    let before = pierstride::read(&before).expect("the bytes of a text that is read");
+    Bad { shown: quoted(line.whole), kind, numbers: line.numbers(), before }.why(refusal)
+}

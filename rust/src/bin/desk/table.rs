@@ -1,0 +1,143 @@
+//! A table as it is handed over, in bytes or as a text, and what stands in it.
+
+use std::ffi::OsStr;
+use std::fs::File;
+use std::io::{self, Read};
+
+use pierstride::{Counts, Kind, Numbered, TextRefusal};
+
+use crate::explain;
+use crate::line;
+use crate::trouble::{Refused, Trouble};
+
+/// How a table is written down.
+#[derive(Clone, Copy, PartialEq, Eq)]
+pub enum Form {
+    Bytes,
+    Text,
+}
+
+/// A table that the library accepted.
+pub struct Table {
+    /// The form in which it was handed over.
+    pub form: Form,
+    pub bytes: Vec<u8>,
+    pub counts: Counts,
+}
+
+/// A row or a question.
+pub struct Entry {
+    pub kind: &'static Kind,
+    /// Its number, among the rows or among the questions.
+    pub number: u32,
+    /// The numbers that it names.
+    pub numbers: Vec<u32>,
+    /// Its line of the text.
+    pub line: String,
+}
+
+/// The most that is read of a file. A table in bytes that is longer is refused within them.
+const MOST_READ: usize = 64 << 20;
+
+/// The table of a file, or of standard input for `-`.
+pub fn load(path: &OsStr) -> Result<Table, Trouble> {
+    let (name, given) = match path.to_str() {
+        Some("-") => ("standard input".into(), front(io::stdin())),
+        _ => (path.to_string_lossy(), File::open(path).and_then(front)),
+    };
+    let given = given.map_err(|error| Trouble::of_file(&name, "read", &error))?;
+    let form = form_of(&given);
+    if form == Form::Text && given.len() > MOST_READ {
+        let most = MOST_READ >> 20;
+        return Err(Trouble::File(format!("{name} is longer than {most} MiB, and no text is")));
+    }
+    read(form, given).map_err(Trouble::Refused)
+}
+
+/// As many bytes as are read, and one more where there are more.
+fn front(file: impl Read) -> io::Result<Vec<u8>> {
+    let mut bytes = Vec::new();
+    file.take(MOST_READ as u64 + 1).read_to_end(&mut bytes)?;
+    Ok(bytes)
+}
+
+/// A text begins with a small letter, which is no kind byte.
+fn form_of(given: &[u8]) -> Form {
+    match given.first() {
+        Some(byte) if byte.is_ascii_lowercase() => Form::Text,
+        _ => Form::Bytes,
+    }
+}
+
+fn read(form: Form, given: Vec<u8>) -> Result<Table, Refused> {
+    let bytes = match form {
+        Form::Bytes => given,
+        Form::Text => bytes_of(&given).map_err(|refusal| explain::of_text(&given, refusal))?,
+    };
+    match pierstride::read(&bytes) {
+        Ok(counts) => Ok(Table { form, bytes, counts }),
+        Err(refusal) => Err(explain::of_bytes(&bytes, refusal)),
+    }
+}
+
+/// The bytes that a text spells.
+pub fn bytes_of(text: &[u8]) -> Result<Vec<u8>, TextRefusal> {
+    let mut bytes = vec![0; pierstride::TABLE_BYTES];
+    let length = pierstride::from_text(text, &mut bytes)?;
+    bytes.truncate(length);
+    Ok(bytes)
+}
+
+/// The text of an accepted table.
+pub fn text_of(bytes: &[u8]) -> String {
+    let mut text = vec![0; pierstride::TEXT_BYTES];
+    let length = pierstride::to_text(bytes, &mut text).expect("an accepted table has a text");
+    text.truncate(length);
+    String::from_utf8(text).expect("a text is ASCII")
+}
+
+impl Table {
+    pub fn text(&self) -> String {
+        text_of(&self.bytes)
+    }
+
+    /// The rows and the questions, in the table's order.
+    pub fn entries(&self) -> Vec<Entry> {
+        let (text, mut entries) = (self.text(), Vec::new());
+        for line in line::lines(text.as_bytes()) {
+            let kind = line.kind().expect("the library writes the words of its kinds");
+            let before = |entry: &&Entry| entry.kind.is == kind.is;
+            let number = entries.iter().filter(before).count() as u32;
+            let (numbers, line) = (line.numbers(), String::from_utf8_lossy(line.whole).into());
+            entries.push(Entry { kind, number, numbers, line });
+        }
+        entries
+    }
+
+    /// How many rows there are, or questions.
+    pub fn count(&self, of: Numbered) -> u32 {
+        count(&self.counts, of)
+    }
+}
+
+/// How many there are: predicates that may be named, rows, questions.
+pub fn count(counts: &Counts, of: Numbered) -> u32 {
+    match of {
+        Numbered::Predicate => pierstride::PREDICATES,
+        Numbered::Row => counts.rows,
+        Numbered::Question => counts.questions,
+    }
+}
+
+impl Entry {
+    /// "row 4"
+    pub fn label(&self) -> String {
+        format!("{} {}", self.kind.is, self.number)
+    }
+
+    /// The things that it names of one sort: rows, say.
+    pub fn named(&self, sort: Numbered) -> impl Iterator<Item = u32> + '_ {
+        let pairs = self.kind.names.iter().zip(&self.numbers);
+        pairs.filter(move |(names, _)| **names == sort).map(|(_, number)| *number)
+    }
+}

@@ -1,0 +1,77 @@
+//! How people say things: counts, lists, quotations.
+
+use std::fmt::Display;
+
+/// The most characters of a quotation.
+const MOST_SHOWN: usize = 60;
+
+/// "1 row", "2 rows".
+pub fn counted<N: Display + From<u8> + PartialEq>(count: N, thing: impl Display) -> String {
+    match count == 1.into() {
+        true => format!("1 {thing}"),
+        false => format!("{count} {thing}s"),
+    }
+}
+
+/// "a", "a and b", "a, b and c", for `last` "and".
+pub fn listed<T: Display>(items: impl IntoIterator<Item = T>, last: &str) -> String {
+    let mut items: Vec<String> = items.into_iter().map(|item| item.to_string()).collect();
+    let end = items.pop().unwrap_or_default();
+    match items.is_empty() {
+        true => end,
+        false => format!("{} {last} {end}", items.join(", ")),
+    }
+}
+
+/// What somebody else wrote, in quotes.
+pub fn quoted(written: &[u8]) -> String {
+    format!("`{}`", shortened(written))
+}
+
+/// What somebody else wrote, on one line and not too long. A character that a terminal would
+/// act on is spelled out.
+pub fn shortened(written: &[u8]) -> String {
+    // No character has more than four bytes.
+    let front = String::from_utf8_lossy(&written[..written.len().min(4 * MOST_SHOWN + 4)]);
+    let mut characters = front.chars();
+    let shown: String = characters.by_ref().take(MOST_SHOWN).flat_map(printable).collect();
+    let rest = if characters.next().is_some() { "…" } else { "" };
+    shown + rest
+}
+
+fn printable(c: char) -> Vec<char> {
+    // Control characters, and those that turn the direction of what follows.
+    let turns =
+        matches!(c, '\u{200E}'..='\u{200F}' | '\u{2028}'..='\u{202E}' | '\u{2066}'..='\u{2069}');
+    match c.is_control() || turns {
+        true => c.escape_default().collect(),
+        false => vec![c],
+    }
+}
+
+/// The one of some words that was perhaps meant: the nearest, if no more than a third of its
+/// letters would have to be changed, put in or left out.
+pub fn meant<'a>(written: &[u8], words: impl Iterator<Item = &'a str>) -> Option<&'a str> {
+    let written = written.to_ascii_lowercase();
+    let near = words.map(|word| (distance(&written, word.as_bytes()), word));
+    let near = near.filter(|(distance, word)| 3 * distance <= word.len());
+    near.min_by_key(|(distance, _)| *distance).map(|(_, word)| word)
+}
+
+/// How many letters have to be changed, put in or left out to make one word the other.
+fn distance(from: &[u8], to: &[u8]) -> usize {
+    // No word is so long, and the work grows with the length.
+    if from.len() > 2 * to.len() {
+        return from.len();
+    }
+    let mut row: Vec<usize> = (0..=to.len()).collect();
+    for (i, a) in from.iter().enumerate() {
+        let mut corner = std::mem::replace(&mut row[0], i + 1);
+        for (j, b) in to.iter().enumerate() {
+            let changed = corner + usize::from(a != b);
+            corner = row[j + 1];
+            row[j + 1] = changed.min(corner + 1).min(row[j] + 1);
+        }
+    }
+    row[to.len()]
+}
