@@ -72,3 +72,37 @@ tell() {
 what_went_wrong() {
     grep -vE ': proved$|: refused, as it must be|note: large solution|^library |^logic|^rt: [a-z]+ proved \(' "$1" | tail -n 200
 }
+
+# need_rt: for a script that has the prover work
+need_rt() {
+    command -v rt >/dev/null && return
+    echo "the Rattle toolchain is missing: its command 'rt' must be on the PATH (docs/DECISIONS.md names the version)" >&2
+    return 1
+}
+
+# prove LOG CRATE COMMAND..: has the prover work on a crate and those that it needs, and says on standard error how far that is; all that the prover said
+# goes to target/LOG
+prove() {
+    local log=target/$1 crate=$2
+    shift 2
+    need_rt
+    mkdir -p target
+    if ! "$@" 2>&1 | tee "$log" | tell "$crate" >&2; then
+        what_went_wrong "$log" >&2
+        echo "$log has all that the prover said" >&2
+        return 1
+    fi
+}
+
+# prove_verdicts: target/bin/verdicts, with what is not proved yet proved first
+prove_verdicts() {
+    prove run.log verdicts rt check verdicts
+}
+
+# prove_library: the static library, unless it is newer than all that it is made from
+prove_library() {
+    local archive=target/staticlib/libpierstride.a
+    if [[ ! -f $archive || -n $(find crates crates.txt -newer "$archive" -print -quit) ]]; then
+        prove library.log pierstride rt staticlib pierstride
+    fi
+}

@@ -17,18 +17,22 @@ get() {
     apt-get install -y --no-install-recommends "$@"
 } >&2
 
+# need COMMAND=PACKAGE..: the Debian packages of the commands that are missing.
+need() {
+    local pair missing=()
+    for pair in "$@"; do command -v "${pair%%=*}" >/dev/null || missing+=("${pair#*=}"); done
+    [[ ${#missing[@]} -eq 0 ]] || get "${missing[@]}"
+}
+
 root=$(cd "$(dirname "${BASH_SOURCE[0]}")/.." && pwd)
 library=$root/target/staticlib
 
 case $(uname -m) in
 x86_64)
-    missing=()
-    command -v cargo >/dev/null || missing+=(rustc cargo)
-    command -v gcc >/dev/null || missing+=(gcc libc6-dev)
-    command -v g++ >/dev/null || missing+=(g++)
-    [[ ${#missing[@]} -eq 0 ]] || get "${missing[@]}"
+    need cargo=cargo rustc=rustc gcc=gcc gcc=libc6-dev g++=g++
     cargo=(cargo)
     cargo_options=()
+    built=release
     cc=gcc
     cxx=g++
     runner=()
@@ -48,6 +52,7 @@ aarch64)
     # By full path, as another toolchain may come first.
     cargo=(/usr/bin/cargo)
     cargo_options=(--target x86_64-unknown-linux-gnu)
+    built=x86_64-unknown-linux-gnu/release
     export RUSTC=/usr/bin/rustc
     export CARGO_TARGET_X86_64_UNKNOWN_LINUX_GNU_LINKER=$cc
     export CARGO_TARGET_X86_64_UNKNOWN_LINUX_GNU_RUNNER=${runner[*]}
@@ -56,6 +61,24 @@ aarch64)
     give_up "no way known to run x86-64 programs on $(uname -m)"
     ;;
 esac
+
+# put_program FILE DIRECTORY: puts a program into DIRECTORY/bin. On an Arm machine it goes to
+# DIRECTORY/libexec/pierstride, and what is put into DIRECTORY/bin runs it under the emulator.
+put_program() {
+    local name=${1##*/} emulated=$2/libexec/pierstride
+    if [[ ${#runner[@]} -eq 0 ]]; then
+        install -D -m 755 "$1" "$2/bin/$name"
+        return
+    fi
+    install -D -m 755 "$1" "$emulated/$name"
+    mkdir -p "$2/bin"
+    cat >"$2/bin/$name" <<WRAP
+#!/bin/sh
+# $name is built for x86-64: this runs it under an emulator.
+exec ${runner[*]} "\$(dirname "\$(readlink -f "\$0")")/../libexec/pierstride/$name" "\$@"
+WRAP
+    chmod 755 "$2/bin/$name"
+}
 
 # need_library: for a script that links the static library.
 need_library() {

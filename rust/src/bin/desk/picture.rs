@@ -7,21 +7,34 @@ use pierstride::{Decision, Numbered};
 
 use crate::table::Entry;
 
+/// A request, and what each row decides there.
+pub struct Decided {
+    pub request: String,
+    pub decisions: Vec<Decision>,
+}
+
 /// A box for each row that is reached from `row`, from the highest number down, and an arrow
-/// from each to the rows that it names. `decided` is what a row decides, where that is wanted.
-pub fn draw(entries: &[Entry], row: u32, decided: impl Fn(u32) -> Option<Decision>) -> String {
+/// from each to the rows that it names, the first of them on the left.
+pub fn draw(entries: &[Entry], row: u32, decided: Option<&Decided>) -> String {
     let rows = reached(entries, row);
     let mut dot = format!("digraph \"row {row}\" {{\n");
+    dot += "    graph [ordering=out, fontname=\"Helvetica\"];\n";
     dot += "    node [shape=box, style=filled, fillcolor=white, fontname=\"Helvetica\"];\n";
+    if let Some(Decided { request, .. }) = decided {
+        let _ = writeln!(dot, "    label=\"{request}\";");
+    }
     for Entry { number, line, .. } in &rows {
-        let decision = match decided(*number) {
-            Some(decision) => format!("\\n{decision}\", fillcolor=\"{}", colour(decision)),
-            None => String::new(),
-        };
+        let decision = decided.map(|decided| decided.decisions[*number as usize]);
+        let decision = decision.map_or(String::new(), |decision| {
+            format!("\\ndecides {decision}\", fillcolor=\"{}", colour(decision))
+        });
         let _ = writeln!(dot, "    {number} [label=\"row {number}\\n{line}{decision}\"];");
     }
     for entry in &rows {
-        for named in entry.named(Numbered::Row).collect::<BTreeSet<_>>() {
+        let mut named: Vec<u32> = entry.named(Numbered::Row).collect();
+        // A row that is named twice gets one arrow.
+        named.dedup();
+        for named in named {
             let _ = writeln!(dot, "    {} -> {named};", entry.number);
         }
     }
@@ -43,7 +56,7 @@ fn reached(entries: &[Entry], row: u32) -> Vec<&Entry> {
     .collect()
 }
 
-/// Told apart by people who see no red or no green too: the word stands in the box.
+/// A box's colour. Its word stands in the box too, for those who tell no red from green.
 fn colour(decision: Decision) -> &'static str {
     match decision {
         Decision::Unspecified => "#eeeeee",

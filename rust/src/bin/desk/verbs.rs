@@ -1,10 +1,10 @@
 //! The verbs: what each takes, says of itself, and does.
 
-use pierstride::{Numbered, Refusal, Verdict};
+use pierstride::{Numbered, Verdict};
 
 use crate::arguments::{mask, Asked};
 use crate::json::{array, object, Json};
-use crate::picture;
+use crate::picture::{self, Decided};
 use crate::progress;
 use crate::table::{text_of, Form, Table};
 use crate::trouble::Trouble;
@@ -380,12 +380,16 @@ fn verdict_object(question: u32, verdict: Verdict) -> Json {
 
 fn picture(asked: &Asked) -> Result<Status, Trouble> {
     let table = asked.table()?;
-    let yes = asked.yes.as_ref().map(|_| mask(&asked.yes));
-    let refused = |refusal: Refusal| asked.refused(&table, refusal);
-    // Refuses a row that is not there, and a predicate that is none.
-    pierstride::decide(&table.bytes, asked.number(), yes.unwrap_or_default()).map_err(refused)?;
-    let decided = |row| yes.and_then(|yes| pierstride::decide(&table.bytes, row, yes).ok());
-    let dot = picture::draw(&table.entries(), asked.number(), decided);
+    let (row, yes) = (asked.number(), mask(&asked.yes));
+    let decide = |row| {
+        let decided = pierstride::decide(&table.bytes, row, yes);
+        decided.map_err(|refusal| asked.refused(&table, refusal))
+    };
+    // The library refuses a row that is not there and a predicate that is none.
+    decide(row)?;
+    let decisions = (0..=row).map(decide).collect::<Result<_, _>>()?;
+    let decided = Decided { request: request_words(yes), decisions };
+    let dot = picture::draw(&table.entries(), row, asked.yes.as_ref().map(|_| &decided));
     asked.output().document(dot.as_bytes(), "picture", dot.as_str().into())?;
     Ok(Status::Yes)
 }

@@ -1,0 +1,118 @@
+//! Holds the package's table of kinds to the library, and the page for survey offices,
+//! `docs/WORDS.md`, to that table.
+
+use std::collections::BTreeMap;
+
+use pierstride::{read, Kind, Numbered, KINDS};
+
+const PAGE: &str = include_str!("../../docs/WORDS.md");
+const TABLE_A: &str = include_str!("../../examples/table-a.txt");
+
+/// Two rows, and two rows and a question: what stands before an entry whose kind is tried.
+const ROWS: &[u8] = &[0x00, 0x00];
+const ROWS_AND_QUESTION: &[u8] = &[0x00, 0x00, 0x40, 0x00, 0x00];
+
+/// What the library says of a kind: its word, what it is, what its numbers name.
+type Found = (String, Numbered, Vec<Numbered>);
+
+/// Tries a kind as a third row, then as a second question; none if it is neither.
+fn found(byte: u8) -> Option<Found> {
+    let sorts = [(ROWS, (3, 0), Numbered::Row), (ROWS_AND_QUESTION, (2, 2), Numbered::Question)];
+    sorts.into_iter().find_map(|(before, counts, is)| {
+        let tables = (0..=2).map(|count| [before, &[byte][..], &vec![0; count]].concat());
+        let table = tables.into_iter().find(|table| {
+            read(table).map_or(false, |found| (found.rows, found.questions) == counts)
+        })?;
+        let names = (before.len() + 1..table.len()).map(|place| named(&table, place)).collect();
+        Some((word(&table), is, names))
+    })
+}
+
+/// What the number at a place of an accepted table names. The number 24 is no predicate; of two
+/// rows and one question, 1 is a row and no question.
+fn named(table: &[u8], place: usize) -> Numbered {
+    let with = |number| {
+        let mut table = table.to_vec();
+        table[place] = number;
+        read(&table).map_or_else(|refusal| refusal.number, |_| 0)
+    };
+    match (with(23), with(24), with(1)) {
+        (0, 3, _) => Numbered::Predicate,
+        (_, 4, 0) => Numbered::Row,
+        (_, 4, 4) => Numbered::Question,
+        other => panic!("the number at {place} of {table:02x?}: {other:?}"),
+    }
+}
+
+/// The word of a table's last line.
+fn word(table: &[u8]) -> String {
+    let mut text = [0; pierstride::TEXT_BYTES];
+    let length = pierstride::to_text(table, &mut text).expect("the table is accepted");
+    let text = std::str::from_utf8(&text[..length]).expect("a text is ASCII");
+    let line = text.lines().last().expect("a line");
+    line.split(' ').next().unwrap_or_default().to_owned()
+}
+
+#[test]
+fn the_package_has_the_library_s_kinds() {
+    for byte in 0..=u8::MAX {
+        let kind = Kind::of_byte(byte);
+        let kind = kind.map(|kind| (kind.word.to_owned(), kind.is, kind.names.to_vec()));
+        assert_eq!(kind, found(byte), "kind {byte:02X}");
+    }
+    assert!(KINDS.windows(2).all(|pair| pair[0].byte < pair[1].byte));
+    for kind in &KINDS {
+        assert_eq!(Kind::of_word(kind.word.as_bytes()), Some(kind));
+    }
+    assert_eq!(Kind::of_word(b"forbid"), None);
+}
+
+#[test]
+fn the_package_has_the_library_s_predicates() {
+    let last = pierstride::PREDICATES as u8 - 1;
+    assert!(read(&[0x10, last]).is_ok());
+    assert_eq!(read(&[0x10, last + 1]).map_err(|refusal| refusal.number), Err(3));
+}
+
+#[test]
+fn a_decision_s_word_is_that_of_the_row_that_always_decides_so() {
+    for kind in KINDS.iter().filter(|kind| kind.is == Numbered::Row && kind.names.is_empty()) {
+        let decision = pierstride::decide(&[kind.byte], 0, 0).expect("a constant row");
+        assert_eq!(decision.to_string(), kind.word);
+    }
+}
+
+/// The cells of the page's table lines, without backticks.
+fn cells() -> impl Iterator<Item = Vec<&'static str>> {
+    let lines = PAGE.lines().filter(|line| line.starts_with('|'));
+    lines.map(|line| line.split('|').map(|cell| cell.trim().trim_matches('`')).skip(1).collect())
+}
+
+/// The page's words and numbers by their bytes: the lines whose first cell is a byte in hex.
+fn on_the_page() -> BTreeMap<u8, (&'static str, &'static str)> {
+    let byte = |cell: &str| (cell.len() == 2).then(|| u8::from_str_radix(cell, 16).ok()).flatten();
+    cells().filter_map(|cells| Some((byte(cells[0])?, (cells[1], cells[2])))).collect()
+}
+
+#[test]
+fn the_page_has_the_package_s_kinds() {
+    let page = on_the_page();
+    for kind in &KINDS {
+        let names: Vec<String> = kind.names.iter().map(Numbered::to_string).collect();
+        let count = ["none", "one: ", "two: "][names.len()];
+        let numbers = count.to_owned() + &names.join(", ");
+        assert_eq!(page.get(&kind.byte), Some(&(kind.word, &*numbers)));
+    }
+    assert_eq!(page.len(), KINDS.len());
+}
+
+#[test]
+fn the_page_s_worked_example_is_table_a() {
+    let heading = "## A worked example: table A";
+    let (_, example) = PAGE.split_once(heading).expect("a worked example");
+    let lines = example.lines().skip_while(|line| !line.starts_with("|---")).skip(1);
+    let lines = lines.take_while(|line| line.starts_with('|'));
+    let text: String =
+        lines.map(|line| line.split('`').nth(1).unwrap_or("").to_owned() + "\n").collect();
+    assert_eq!(text, TABLE_A);
+}
