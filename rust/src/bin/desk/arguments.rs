@@ -3,7 +3,7 @@
 use std::ffi::{OsStr, OsString};
 use std::fmt;
 
-use pierstride::Refusal;
+use pierstride::{Refusal, PREDICATES};
 
 use crate::explain;
 use crate::help;
@@ -130,14 +130,13 @@ fn parse_for(verb: &'static Verb, arguments: &[OsString]) -> Result<Asked, Strin
         }
     }
     asked.operands(&operands)?;
-    let both = asked
-        .yes
-        .iter()
-        .flatten()
-        .find(|yes| asked.no.iter().flatten().any(|no| no.value == yes.value));
+    let both = mask(&asked.yes) & mask(&asked.no) & ((1 << PREDICATES) - 1);
     match both {
-        Some(number) => Err(format!("predicate {number} is given with --yes and with --no")),
-        None => Ok(asked),
+        0 => Ok(asked),
+        _ => {
+            let first = both.trailing_zeros();
+            Err(format!("predicate {first} is given with --yes and with --no"))
+        }
     }
 }
 
