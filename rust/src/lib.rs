@@ -207,19 +207,14 @@ pub enum Decision {
 }
 
 impl Decision {
-    fn from_code(code: u32) -> Decision {
-        match code {
-            0 => Decision::Unspecified,
-            1 => Decision::Deny,
-            2 => Decision::Grant,
-            3 => Decision::Conflict,
-            _ => unreachable!("the library answered a decision with code {code}"),
-        }
-    }
-
     /// The decisions, by rising codes.
     pub const ALL: [Decision; 4] =
         [Decision::Unspecified, Decision::Deny, Decision::Grant, Decision::Conflict];
+
+    fn from_code(code: u32) -> Decision {
+        let decision = Decision::ALL.into_iter().find(|decision| decision.code() == code);
+        decision.unwrap_or_else(|| unreachable!("the library answered a decision with code {code}"))
+    }
 
     /// The decision's code, 0 to 3.
     pub fn code(self) -> u32 {

@@ -9,16 +9,16 @@ use crate::explain;
 use crate::help;
 use crate::line::value;
 use crate::output::Output;
+use crate::request::mask;
 use crate::table::{self, Table};
 use crate::trouble::Trouble;
 use crate::verbs::{Flag, Operand, Verb, VERBS};
 use crate::words::{meant, quoted, shortened};
 
-/// What is wanted.
-pub enum Request {
-    /// These words: a help, the version.
-    Say(String),
-    Ask(Asked),
+pub enum Typed {
+    /// What the program is to say of itself.
+    Help(String),
+    Asked(Asked),
 }
 
 /// A verb, its table, and the rest that was typed behind it.
@@ -58,9 +58,9 @@ impl Asked {
         Output { json: self.json, file: self.file.as_deref() }
     }
 
-    /// A refusal of what was asked of a table.
-    pub fn refused(&self, table: &Table, refusal: Refusal) -> Trouble {
-        Trouble::Refused(explain::of_call(table, self, refusal))
+    /// What the library answered for an accepted table, or its refusal in words.
+    pub fn answered<T>(&self, table: &Table, answer: Result<T, Refusal>) -> Result<T, Trouble> {
+        answer.map_err(|refusal| Trouble::Refused(explain::of_call(table, self, refusal)))
     }
 
     /// The number that the verb asks for.
@@ -69,30 +69,23 @@ impl Asked {
     }
 }
 
-/// The mask of a list of predicates. A number that has no bit in a mask gets the highest, which
-/// the library refuses as it does every bit above 23.
-pub fn mask(list: &Option<Vec<Number>>) -> u32 {
-    let bits = list.iter().flatten().map(|number| 1 << number.value.min(u32::BITS - 1));
-    bits.fold(0, |mask: u32, bit: u32| mask | bit)
-}
-
-pub fn parse(arguments: &[OsString]) -> Result<Request, Trouble> {
+pub fn parse(arguments: &[OsString]) -> Result<Typed, Trouble> {
     let (first, rest) = match arguments.split_first() {
         Some((first, rest)) => (first, rest),
         None => return Err(no_verb("a verb is missing".to_owned())),
     };
     match first.to_str() {
-        Some("--help" | "-h") => return Ok(Request::Say(help::of_program())),
-        Some("--version" | "-V") => return Ok(Request::Say(help::version())),
+        Some("--help" | "-h") => return Ok(Typed::Help(help::of_program())),
+        Some("--version" | "-V") => return Ok(Typed::Help(help::version())),
         _ => {}
     }
     let verb = VERBS.iter().find(|verb| first == verb.name).ok_or_else(|| unknown_verb(first))?;
     let mut options = rest.iter().take_while(|argument| *argument != "--");
     if options.any(|argument| argument == "--help" || argument == "-h") {
-        return Ok(Request::Say(help::of_verb(verb)));
+        return Ok(Typed::Help(help::of_verb(verb)));
     }
     let asked = parse_for(verb, rest);
-    asked.map(Request::Ask).map_err(|why| Trouble::Usage { why, see: help::usage(verb) })
+    asked.map(Typed::Asked).map_err(|why| Trouble::Usage { why, see: help::usage(verb) })
 }
 
 fn no_verb(why: String) -> Trouble {

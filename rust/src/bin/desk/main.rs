@@ -2,7 +2,7 @@
 //!
 //! The program decides nothing itself: it reads a file, makes the library's calls, and puts
 //! what comes back into words. `docs/DESK.md` is its page. A verb is an entry of the table in
-//! `verbs.rs`, which its usage, its help and its options follow from.
+//! `verbs`, which its usage, its help and its options follow from, and a function.
 
 mod arguments;
 mod explain;
@@ -12,40 +12,43 @@ mod line;
 mod output;
 mod picture;
 mod progress;
+mod request;
 mod table;
 mod trouble;
 mod verbs;
 mod words;
 
-use arguments::Request;
+use std::ffi::OsString;
+
+use arguments::Typed;
 use output::Output;
 use trouble::Trouble;
 
-/// An answer that is no, as the exit status says it.
-const NO: i32 = 1;
-
-fn main() {
-    let arguments: Vec<_> = std::env::args_os().skip(1).collect();
-    let status = match run(&arguments) {
-        Ok(verbs::Status::Yes) => 0,
-        Ok(verbs::Status::No) => NO,
-        Err(trouble) => trouble.tell(),
-    };
-    std::process::exit(status);
+/// How the program ended, as its exit status says.
+#[derive(Clone, Copy)]
+enum Status {
+    Answered = 0,
+    /// The answer is no: "fails", "unfinished".
+    No = 1,
+    Refused = 2,
+    /// Wrong usage, or a file that cannot be read or written.
+    Failed = 3,
 }
 
-fn run(arguments: &[std::ffi::OsString]) -> Result<verbs::Status, Trouble> {
-    match arguments::parse(arguments)? {
-        Request::Say(words) => {
-            Output::default().words(words)?;
-            Ok(verbs::Status::Yes)
-        }
-        Request::Ask(asked) => {
-            let answered = (asked.verb.run)(&asked);
-            if let Err(Trouble::Refused(refused)) = &answered {
-                asked.output().object(refused.object())?;
-            }
-            answered
-        }
+fn main() {
+    let typed: Vec<OsString> = std::env::args_os().skip(1).collect();
+    let status = run(&typed).unwrap_or_else(|trouble| trouble.tell());
+    std::process::exit(status as i32);
+}
+
+fn run(typed: &[OsString]) -> Result<Status, Trouble> {
+    let asked = match arguments::parse(typed)? {
+        Typed::Help(words) => return Output::default().words(words),
+        Typed::Asked(asked) => asked,
+    };
+    let answered = (asked.verb.run)(&asked);
+    if let Err(Trouble::Refused(refused)) = &answered {
+        asked.output().object(refused.object())?;
     }
+    answered
 }

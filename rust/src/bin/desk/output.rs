@@ -8,6 +8,7 @@ use std::path::Path;
 
 use crate::json::{object, Json};
 use crate::trouble::Trouble;
+use crate::Status;
 
 #[derive(Default)]
 pub struct Output<'a> {
@@ -19,29 +20,35 @@ pub struct Output<'a> {
 
 impl Output<'_> {
     /// An answer in words, and as an object.
-    pub fn answer(&self, words: impl Display, object: Json) -> Result<(), Trouble> {
+    pub fn answer(&self, words: impl Display, object: Json) -> Result<Status, Trouble> {
         self.words(words)?;
         self.object(object)
     }
 
     /// Words, unless an object is wanted.
-    pub fn words(&self, words: impl Display) -> Result<(), Trouble> {
-        if self.json {
-            return Ok(());
+    pub fn words(&self, words: impl Display) -> Result<Status, Trouble> {
+        match self.json {
+            true => Ok(Status::Answered),
+            false => print(format!("{words}\n").as_bytes()),
         }
-        print(format!("{words}\n").as_bytes())
     }
 
     /// An object, if it is wanted.
-    pub fn object(&self, object: Json) -> Result<(), Trouble> {
-        if !self.json {
-            return Ok(());
+    pub fn object(&self, object: Json) -> Result<Status, Trouble> {
+        match self.json {
+            true => print(format!("{object}\n").as_bytes()),
+            false => Ok(Status::Answered),
         }
-        print(format!("{object}\n").as_bytes())
     }
 
-    /// A whole table or picture: `json` is what an object has of it, under its name.
-    pub fn document(&self, contents: &[u8], name: &'static str, json: Json) -> Result<(), Trouble> {
+    /// A whole table or picture; `name` is what it is called in an object, and `text` what
+    /// stands there.
+    pub fn document(
+        &self,
+        contents: &[u8],
+        name: &'static str,
+        text: &str,
+    ) -> Result<Status, Trouble> {
         match self.file {
             Some(file) if file != "-" => {
                 let name = file.to_string_lossy();
@@ -49,19 +56,20 @@ impl Output<'_> {
                     .map_err(|error| Trouble::of_file(&name, "written", &error))?;
                 self.object(object([("file", (&*name).into()), ("length", contents.len().into())]))
             }
-            _ if self.json => self.object(object([(name, json)])),
+            _ if self.json => self.object(object([(name, text.into())])),
             _ => print(contents),
         }
     }
 }
 
 /// Writes to standard output.
-fn print(bytes: &[u8]) -> Result<(), Trouble> {
+fn print(bytes: &[u8]) -> Result<Status, Trouble> {
     let mut out = io::stdout();
-    out.write_all(bytes).and_then(|()| out.flush()).map_err(|error| match error.kind() {
-        ErrorKind::BrokenPipe => Trouble::Closed,
-        _ => Trouble::of_file("standard output", "written", &error),
-    })
+    match out.write_all(bytes).and_then(|()| out.flush()) {
+        Ok(()) => Ok(Status::Answered),
+        Err(error) if error.kind() == ErrorKind::BrokenPipe => Err(Trouble::Closed),
+        Err(error) => Err(Trouble::of_file("standard output", "written", &error)),
+    }
 }
 
 /// Writes a file whole or not at all: the contents go to a new file beside it, which takes its

@@ -9,6 +9,7 @@ use pierstride::{Counts, Kind, Numbered, TextRefusal};
 use crate::explain;
 use crate::line;
 use crate::trouble::{Refused, Trouble};
+use crate::words::visible;
 
 /// How a table is written down.
 #[derive(Clone, Copy, PartialEq, Eq)]
@@ -49,6 +50,7 @@ pub fn load(path: &OsStr) -> Result<Table, Trouble> {
     let form = form_of(&given);
     if form == Form::Text && given.len() > MOST_READ {
         let most = MOST_READ >> 20;
+        let name = visible(&name);
         return Err(Trouble::File(format!("{name} is longer than {most} MiB, and no text is")));
     }
     read(form, given).map_err(Trouble::Refused)
@@ -97,13 +99,9 @@ pub fn text_of(bytes: &[u8]) -> String {
 }
 
 impl Table {
-    pub fn text(&self) -> String {
-        text_of(&self.bytes)
-    }
-
     /// The rows and the questions, in the table's order.
     pub fn entries(&self) -> Vec<Entry> {
-        let (text, mut entries) = (self.text(), Vec::new());
+        let (text, mut entries) = (text_of(&self.bytes), Vec::new());
         for line in line::lines(text.as_bytes()) {
             let kind = line.kind().expect("the library writes the words of its kinds");
             let before = |entry: &&Entry| entry.kind.is == kind.is;

@@ -3,6 +3,8 @@
 use std::io::{self, Write};
 
 use crate::json::{object, Json};
+use crate::words::visible;
+use crate::Status;
 
 /// Why there is no answer.
 pub enum Trouble {
@@ -37,14 +39,14 @@ pub enum Place {
 }
 
 impl Trouble {
-    /// Tells it on standard error, and gives the exit status. A standard error that cannot be
-    /// written leaves the exit status alone to tell it.
-    pub fn tell(&self) -> i32 {
+    /// Tells it on standard error, and how the program ends. Where standard error cannot be
+    /// written, the exit status alone tells it.
+    pub fn tell(&self) -> Status {
         let (words, status) = match self {
-            Trouble::Usage { why, see } => (format!("desk: {why}\n{see}\n"), 3),
-            Trouble::File(why) => (format!("desk: {why}\n"), 3),
-            Trouble::Closed => (String::new(), 3),
-            Trouble::Refused(refused) => (refused.words(), 2),
+            Trouble::Usage { why, see } => (format!("desk: {why}\n{see}\n"), Status::Failed),
+            Trouble::File(why) => (format!("desk: {why}\n"), Status::Failed),
+            Trouble::Closed => (String::new(), Status::Failed),
+            Trouble::Refused(refused) => (refused.words(), Status::Refused),
         };
         let _ = io::stderr().write_all(words.as_bytes());
         status
@@ -54,7 +56,7 @@ impl Trouble {
     pub fn of_file(name: &str, done: &str, error: &io::Error) -> Trouble {
         let error = error.to_string();
         let plain = error.split(" (os error").next().unwrap_or_default();
-        Trouble::File(format!("{name} cannot be {done}: {plain}"))
+        Trouble::File(format!("{} cannot be {done}: {plain}", visible(name)))
     }
 }
 

@@ -28,15 +28,19 @@ pub fn quoted(written: &[u8]) -> String {
     format!("`{}`", shortened(written))
 }
 
-/// What somebody else wrote, on one line and not too long. A character that a terminal would
-/// act on is spelled out.
+/// What somebody else wrote, if it is not too long, else the front of it.
 pub fn shortened(written: &[u8]) -> String {
     // No character has more than four bytes.
     let front = String::from_utf8_lossy(&written[..written.len().min(4 * MOST_SHOWN + 4)]);
-    let mut characters = front.chars();
-    let shown: String = characters.by_ref().take(MOST_SHOWN).flat_map(printable).collect();
-    let rest = if characters.next().is_some() { "…" } else { "" };
-    shown + rest
+    match front.char_indices().nth(MOST_SHOWN) {
+        Some((end, _)) => visible(&front[..end]) + "…",
+        None => visible(&front),
+    }
+}
+
+/// On one line, each character that a terminal would act on spelled out.
+pub fn visible(written: &str) -> String {
+    written.chars().flat_map(printable).collect()
 }
 
 fn printable(c: char) -> Vec<char> {
