@@ -55,8 +55,8 @@ pub static VERBS: [Verb; 9] = [
         operand: Operand::None,
         options: &[],
         brief: "how many rows, questions and predicates, or the refusal",
-        about: "How many rows and questions a table has, and how many predicates: one more than the\n\
-                highest that any row uses. Or the refusal: its number, its place, and what to do.",
+        about: "How many rows and questions a table has, and how many predicates: one more\n\
+                than the highest that any row uses. Or the refusal.",
         example: ("desk check examples/table-a.txt", "6 rows, 3 questions, 2 predicates"),
         run: tables::check,
     },
@@ -84,7 +84,10 @@ pub static VERBS: [Verb; 9] = [
         options: &[],
         brief: "each row and each question with its number",
         about: "The table for people: each row and each question with its number and its text.",
-        example: ("printf 'grant\\nnegation 0\\n' | desk show -", "row 0  grant\nrow 1  negation 0"),
+        example: (
+            "printf 'grant\\nnegation 0\\n' | desk show -",
+            "row 0  grant\nrow 1  negation 0",
+        ),
         run: tables::show,
     },
     Verb {
@@ -108,8 +111,8 @@ pub static VERBS: [Verb; 9] = [
             },
         ],
         brief: "the decisions that remain possible where facts are missing",
-        about: "Which decisions of row ROW remain possible where facts are missing. The decision under\n\
-                every way of filling them in is among these.",
+        about: "Which decisions of row ROW remain possible where facts are missing. The\n\
+                decision under every way of filling them in is among these.",
         example: ("desk possible examples/table-a.txt 4 --yes 0", "grant or conflict"),
         run: rows::possible,
     },
@@ -122,9 +125,9 @@ pub static VERBS: [Verb; 9] = [
             about: "how many visits each walk may make; without it, as many as it needs",
         }],
         brief: "whether a question holds, or every question",
-        about: "Whether question QUESTION is true at every request and, if not, the first request that\n\
-                breaks it; without QUESTION, of every question of the table. The exit status is 1 if one\n\
-                fails or is unfinished.",
+        about: "Whether question QUESTION is true at every request and, if not, the first\n\
+                request that breaks it; without QUESTION, of every question of the table.\n\
+                The exit status is 1 if one fails or is unfinished.",
         example: (
             "desk ask examples/table-a.txt 2",
             "fails at predicates 0 and 1 yes, all others no, after 5 visits",
@@ -136,8 +139,8 @@ pub static VERBS: [Verb; 9] = [
         operand: Operand::One(Numbered::Row),
         options: &[OUTPUT],
         brief: "the table without a row, in the form of the old",
-        about: "The table without row ROW, in the form of the old. Every remaining row decides as before\n\
-                under its new number.",
+        about: "The table without row ROW, in the form of the old. Every remaining row\n\
+                decides as before under its new number.",
         example: ("printf 'deny\\ngrant\\nnegation 1\\n' | desk strike - 0", "grant\nnegation 0"),
         run: tables::strike,
     },
@@ -149,8 +152,8 @@ pub static VERBS: [Verb; 9] = [
             OUTPUT,
         ],
         brief: "the rows that a row reaches, as a Graphviz file",
-        about: "The rows that row ROW reaches, as a Graphviz file, with an arrow from each row to the\n\
-                rows that it names.",
+        about: "The rows that row ROW reaches, as a Graphviz file, with an arrow from each\n\
+                row to the rows that it names.",
         example: ("desk picture examples/table-a.txt 4 --yes 0,1 | dot -Tsvg >row-4.svg", ""),
         run: rows::picture,
     },
