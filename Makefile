@@ -1,6 +1,6 @@
 # The rule desk's commands. Each does its own set-up on a fresh machine.
 .PHONY: run desk install test bench pictures
-PREFIX = /usr/local
+PREFIX ?= /usr/local
 
 # the verdicts on a table's questions: make run, or make run TABLE=file
 run:

@@ -94,15 +94,19 @@ prove() {
     fi
 }
 
-# prove_verdicts: target/bin/verdicts, with what is not proved yet proved first
+# newer FILE FROM..: the file is there, and is newer than all that it is made from
+newer() {
+    local file=$1
+    shift
+    [[ -f $file && -z $(find "$@" -newer "$file" -print -quit) ]]
+}
+
+# prove_verdicts: target/bin/verdicts, unless it is newer than all that it is made from
 prove_verdicts() {
-    prove run.log verdicts rt check verdicts
+    newer target/bin/verdicts crates crates.txt || prove run.log verdicts rt check verdicts
 }
 
 # prove_library: the static library, unless it is newer than all that it is made from
 prove_library() {
-    local archive=target/staticlib/libpierstride.a
-    if [[ ! -f $archive || -n $(find crates crates.txt -newer "$archive" -print -quit) ]]; then
-        prove library.log pierstride rt staticlib pierstride
-    fi
+    newer target/staticlib/libpierstride.a crates crates.txt || prove library.log pierstride rt staticlib pierstride
 }

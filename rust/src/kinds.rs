@@ -56,7 +56,7 @@ impl Kind {
 use Numbered::{Predicate, Question, Row};
 
 /// Every kind, by rising bytes. That these are the library's is tested, not proved.
-pub static KINDS: [Kind; 24] = [
+pub static KINDS: &[Kind] = &[
     Kind::row(0x00, "unspecified", &[]),
     Kind::row(0x01, "deny", &[]),
     Kind::row(0x02, "grant", &[]),

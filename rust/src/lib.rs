@@ -133,14 +133,23 @@ macro_rules! refusals {
             pub place: usize,
         }
 
+        impl TextRefusal {
+            /// Why, in words: but with 11, what is said of the line.
+            pub fn reason(&self) -> &'static str {
+                match self.number {
+                    $($($number => $of_a_line,)?)*
+                    number => Refusal { number, place: 0 }.reason(),
+                }
+            }
+        }
+
         impl fmt::Display for TextRefusal {
             fn fmt(&self, f: &mut fmt::Formatter) -> fmt::Result {
                 let TextRefusal { number, place } = *self;
-                let reason = match number {
-                    $($($number => $of_a_line,)?)*
-                    _ => return Refusal { number, place }.fmt(f),
-                };
-                write!(f, "refused {number} at line {place}: {reason}")
+                match place {
+                    0 => write!(f, "refused {number}: {}", self.reason()),
+                    _ => write!(f, "refused {number} at line {place}: {}", self.reason()),
+                }
             }
         }
     };

@@ -61,7 +61,7 @@ fn the_package_has_the_library_s_kinds() {
         assert_eq!(kind, found(byte), "kind {byte:02X}");
     }
     assert!(KINDS.windows(2).all(|pair| pair[0].byte < pair[1].byte));
-    for kind in &KINDS {
+    for kind in KINDS {
         assert_eq!(Kind::of_word(kind.word.as_bytes()), Some(kind));
     }
     assert_eq!(Kind::of_word(b"forbid"), None);
@@ -97,7 +97,7 @@ fn on_the_page() -> BTreeMap<u8, (&'static str, &'static str)> {
 #[test]
 fn the_page_has_the_package_s_kinds() {
     let page = on_the_page();
-    for kind in &KINDS {
+    for kind in KINDS {
         let names: Vec<String> = kind.names.iter().map(Numbered::to_string).collect();
         let count = ["none", "one: ", "two: "][names.len()];
         let numbers = count.to_owned() + &names.join(", ");

@@ -24,6 +24,7 @@ pub fn of_verb(verb: &Verb) -> String {
 
 pub fn of_program() -> String {
     let verbs: Vec<_> = VERBS.iter().map(|verb| (verb.call(), verb.brief)).collect();
+    let (command, answer) = VERBS[0].example;
     let verbs = columns(verbs.iter().map(|(call, brief)| (call.as_str(), *brief)));
     format!(
         "usage: desk VERB TABLE ...\n\
@@ -31,6 +32,10 @@ pub fn of_program() -> String {
          Asks the proved library about a rule table, and says the answer in words.\n\
          \n\
          {verbs}\n\
+         example:\n  \
+         $ {command}\n  \
+         {answer}\n\
+         \n\
          TABLE is a file, or - for standard input: a table's bytes, or its text.\n\
          Every verb takes --json, for the answer as one JSON object on one line, and --help,\n\
          for what else it takes and an example. desk --version gives the version.\n\

@@ -49,7 +49,7 @@ impl Display for Json {
     fn fmt(&self, f: &mut Formatter) -> fmt::Result {
         match self {
             Json::Number(number) => number.fmt(f),
-            Json::Text(text) => quoted(f, text),
+            Json::Text(text) => string(f, text),
             Json::Array(items) => {
                 f.write_char('[')?;
                 separated(f, items, |f, item| item.fmt(f))?;
@@ -58,7 +58,7 @@ impl Display for Json {
             Json::Object(fields) => {
                 f.write_char('{')?;
                 separated(f, fields, |f, (name, value)| {
-                    quoted(f, name)?;
+                    string(f, name)?;
                     write!(f, ":{value}")
                 })?;
                 f.write_char('}')
@@ -81,7 +81,7 @@ fn separated<T>(
     Ok(())
 }
 
-fn quoted(f: &mut Formatter, text: &str) -> fmt::Result {
+fn string(f: &mut Formatter, text: &str) -> fmt::Result {
     f.write_char('"')?;
     for c in text.chars() {
         match c {

@@ -2,40 +2,37 @@
 
 use pierstride::Kind;
 
+use crate::number::value;
+
+#[derive(Clone, Copy)]
 pub struct Line<'a> {
+    /// Without its line feed.
     pub whole: &'a [u8],
-    pub word: &'a [u8],
-    /// What stands behind each space of the line.
-    pub pieces: Vec<&'a [u8]>,
 }
 
 impl<'a> Line<'a> {
-    pub fn new(whole: &'a [u8]) -> Line<'a> {
-        let mut pieces = whole.split(|&byte| byte == b' ');
-        let word = pieces.next().unwrap_or_default();
-        Line { whole, word, pieces: pieces.collect() }
+    /// What stands before the first space.
+    pub fn word(self) -> &'a [u8] {
+        self.whole.split(|&byte| byte == b' ').next().unwrap_or_default()
     }
 
-    pub fn kind(&self) -> Option<&'static Kind> {
-        Kind::of_word(self.word)
+    /// What stands behind each space, up to the next.
+    pub fn pieces(self) -> impl Iterator<Item = &'a [u8]> + Clone {
+        self.whole.split(|&byte| byte == b' ').skip(1)
+    }
+
+    pub fn kind(self) -> Option<&'static Kind> {
+        Kind::of_word(self.word())
     }
 
     /// The numbers of a line that is well spelled.
-    pub fn numbers(&self) -> Vec<u32> {
-        self.pieces.iter().filter_map(|piece| value(piece)).collect()
+    pub fn numbers(self) -> Vec<u32> {
+        self.pieces().filter_map(value).collect()
     }
 }
 
-/// The lines of a text, without their line feeds.
+/// The lines of a text.
 pub fn lines(text: &[u8]) -> impl Iterator<Item = Line<'_>> {
     text.split_inclusive(|&byte| byte == b'\n')
-        .map(|line| Line::new(line.strip_suffix(b"\n").unwrap_or(line)))
-}
-
-/// The value of digits alone; of more than 32 bits can hold, the most that they can.
-pub fn value(digits: &[u8]) -> Option<u32> {
-    let is_number = !digits.is_empty() && digits.iter().all(u8::is_ascii_digit);
-    let grow =
-        |value: u32, digit: &u8| value.saturating_mul(10).saturating_add(u32::from(digit - b'0'));
-    is_number.then(|| digits.iter().fold(0, grow))
+        .map(|line| Line { whole: line.strip_suffix(b"\n").unwrap_or(line) })
 }

@@ -5,10 +5,12 @@
 //! `verbs`, which its usage, its help and its options follow from, and a function.
 
 mod arguments;
+mod asked;
 mod explain;
 mod help;
 mod json;
 mod line;
+mod number;
 mod output;
 mod picture;
 mod progress;
@@ -26,7 +28,7 @@ use trouble::Trouble;
 
 /// How the program ended, as its exit status says.
 #[derive(Clone, Copy)]
-enum Status {
+pub enum Status {
     Answered = 0,
     /// The answer is no: "fails", "unfinished".
     No = 1,
@@ -43,12 +45,17 @@ fn main() {
 
 fn run(typed: &[OsString]) -> Result<Status, Trouble> {
     let asked = match arguments::parse(typed)? {
-        Typed::Help(words) => return Output::default().words(words),
+        Typed::Help(words) => {
+            Output::default().words(words)?;
+            return Ok(Status::Answered);
+        }
         Typed::Asked(asked) => asked,
     };
     let answered = (asked.verb.run)(&asked);
     if let Err(Trouble::Refused(refused)) = &answered {
+        let status = refused.tell();
         asked.output().object(refused.object())?;
+        return Ok(status);
     }
     answered
 }

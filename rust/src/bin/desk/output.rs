@@ -4,11 +4,12 @@ use std::ffi::OsStr;
 use std::fmt::Display;
 use std::fs::{self, File, OpenOptions};
 use std::io::{self, ErrorKind, Write};
-use std::path::Path;
+use std::os::unix::io::AsFd;
+use std::path::{Path, PathBuf};
 
 use crate::json::{object, Json};
 use crate::trouble::Trouble;
-use crate::Status;
+use crate::words::file_name;
 
 #[derive(Default)]
 pub struct Output<'a> {
@@ -20,41 +21,36 @@ pub struct Output<'a> {
 
 impl Output<'_> {
     /// An answer in words, and as an object.
-    pub fn answer(&self, words: impl Display, object: Json) -> Result<Status, Trouble> {
+    pub fn answer(&self, words: impl Display, object: Json) -> Result<(), Trouble> {
         self.words(words)?;
         self.object(object)
     }
 
     /// Words, unless an object is wanted.
-    pub fn words(&self, words: impl Display) -> Result<Status, Trouble> {
+    pub fn words(&self, words: impl Display) -> Result<(), Trouble> {
         match self.json {
-            true => Ok(Status::Answered),
+            true => Ok(()),
             false => print(format!("{words}\n").as_bytes()),
         }
     }
 
     /// An object, if it is wanted.
-    pub fn object(&self, object: Json) -> Result<Status, Trouble> {
+    pub fn object(&self, object: Json) -> Result<(), Trouble> {
         match self.json {
             true => print(format!("{object}\n").as_bytes()),
-            false => Ok(Status::Answered),
+            false => Ok(()),
         }
     }
 
-    /// A whole table or picture; `name` is what it is called in an object, and `text` what
-    /// stands there.
-    pub fn document(
-        &self,
-        contents: &[u8],
-        name: &'static str,
-        text: &str,
-    ) -> Result<Status, Trouble> {
+    /// A whole table or picture. In an object it is called `name`, and `text` stands there.
+    pub fn document(&self, contents: &[u8], name: &'static str, text: &str) -> Result<(), Trouble> {
         match self.file {
-            Some(file) if file != "-" => {
-                let name = file.to_string_lossy();
+            Some(file) if file != "-" && file != "/dev/stdout" => {
+                let shown = file.to_string_lossy();
                 replace(Path::new(file), contents)
-                    .map_err(|error| Trouble::of_file(&name, "written", &error))?;
-                self.object(object([("file", (&*name).into()), ("length", contents.len().into())]))
+                    .map_err(|error| Trouble::of_file(&file_name(&shown), "written", &error))?;
+                let length = contents.len().into();
+                self.object(object([("file", (&*shown).into()), ("length", length)]))
             }
             _ if self.json => self.object(object([(name, text.into())])),
             _ => print(contents),
@@ -62,11 +58,12 @@ impl Output<'_> {
     }
 }
 
-/// Writes to standard output.
-fn print(bytes: &[u8]) -> Result<Status, Trouble> {
-    let mut out = io::stdout();
-    match out.write_all(bytes).and_then(|()| out.flush()) {
-        Ok(()) => Ok(Status::Answered),
+/// Writes to standard output: to the file itself, as the library's own `stdout` says nothing of
+/// one that was opened for reading.
+fn print(bytes: &[u8]) -> Result<(), Trouble> {
+    let out = io::stdout().as_fd().try_clone_to_owned().map(File::from);
+    match out.and_then(|mut out| out.write_all(bytes)) {
+        Ok(()) => Ok(()),
         Err(error) if error.kind() == ErrorKind::BrokenPipe => Err(Trouble::Closed),
         Err(error) => Err(Trouble::of_file("standard output", "written", &error)),
     }
@@ -75,8 +72,7 @@ fn print(bytes: &[u8]) -> Result<Status, Trouble> {
 /// Writes a file whole or not at all: the contents go to a new file beside it, which takes its
 /// name once they are all there. What is no plain file is written to directly.
 fn replace(path: &Path, contents: &[u8]) -> io::Result<()> {
-    // A symbolic link stays, and the file that it names is written.
-    let path = fs::canonicalize(path).unwrap_or_else(|_| path.to_owned());
+    let path = behind_links(path);
     let old = match fs::metadata(&path) {
         Ok(old) => {
             // Fails if the old file may not be written.
@@ -88,21 +84,38 @@ fn replace(path: &Path, contents: &[u8]) -> io::Result<()> {
         }
         Err(_) => None,
     };
-    let name = path.file_name().ok_or(ErrorKind::InvalidInput)?.to_string_lossy();
-    let new = path.with_file_name(format!(".{name}.{}.new", std::process::id()));
-    let mut file = OpenOptions::new().write(true).create_new(true).open(&new)?;
-    let written = fill(&mut file, contents, old).and_then(|()| fs::rename(&new, &path));
+    let (new, file) = new_beside(&path)?;
+    let written = fill(file, contents, old).and_then(|()| fs::rename(&new, &path));
     if written.is_err() {
         let _ = fs::remove_file(&new);
     }
     written
 }
 
+/// The file that a path names, also where it is a link to a file that is not there yet.
+fn behind_links(path: &Path) -> PathBuf {
+    let linked = |_| fs::read_link(path).map(|link| path.with_file_name("").join(link));
+    fs::canonicalize(path).or_else(linked).unwrap_or_else(|_| path.to_owned())
+}
+
+/// A new file in the directory of another.
+fn new_beside(path: &Path) -> io::Result<(PathBuf, File)> {
+    let mut taken = 0;
+    loop {
+        let new = path.with_file_name(format!(".desk-{}-{taken}.new", std::process::id()));
+        match OpenOptions::new().write(true).create_new(true).open(&new) {
+            Ok(file) => return Ok((new, file)),
+            Err(error) if error.kind() == ErrorKind::AlreadyExists => taken += 1,
+            Err(error) => return Err(error),
+        }
+    }
+}
+
 /// Fills a new file, with the permissions of the old one.
-fn fill(file: &mut File, contents: &[u8], old: Option<fs::Metadata>) -> io::Result<()> {
-    file.write_all(contents)?;
+fn fill(mut file: File, contents: &[u8], old: Option<fs::Metadata>) -> io::Result<()> {
     if let Some(old) = old {
         file.set_permissions(old.permissions())?;
     }
+    file.write_all(contents)?;
     file.sync_all()
 }

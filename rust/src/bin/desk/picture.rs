@@ -14,7 +14,8 @@ pub struct Decided {
 }
 
 /// A box for each row that is reached from `row`, from the highest number down, and an arrow
-/// from each to the rows that it names, the first of them on the left.
+/// from each to the rows that it names; where it can, Graphviz puts the first of them on the
+/// left.
 pub fn draw(entries: &[Entry], row: u32, decided: Option<&Decided>) -> String {
     let rows = reached(entries, row);
     let mut dot = format!("digraph \"row {row}\" {{\n");
@@ -23,12 +24,9 @@ pub fn draw(entries: &[Entry], row: u32, decided: Option<&Decided>) -> String {
     if let Some(Decided { request, .. }) = decided {
         let _ = writeln!(dot, "    label=\"{request}\";");
     }
-    for Entry { number, line, .. } in &rows {
-        let decision = decided.map(|decided| decided.decisions[*number as usize]);
-        let decision = decision.map_or(String::new(), |decision| {
-            format!("\\ndecides {decision}\", fillcolor=\"{}", colour(decision))
-        });
-        let _ = writeln!(dot, "    {number} [label=\"row {number}\\n{line}{decision}\"];");
+    for entry in &rows {
+        let decision = decided.map(|decided| decided.decisions[entry.number as usize]);
+        dot += &drawn(entry, decision);
     }
     for entry in &rows {
         let mut named: Vec<u32> = entry.named(Numbered::Row).collect();
@@ -56,8 +54,19 @@ fn reached(entries: &[Entry], row: u32) -> Vec<&Entry> {
     .collect()
 }
 
-/// A box's colour. Its word stands in the box too, for those who tell no red from green.
-fn colour(decision: Decision) -> &'static str {
+/// A row's box.
+fn drawn(entry: &Entry, decision: Option<Decision>) -> String {
+    let mut lines = vec![entry.label(), entry.line.clone()];
+    let mut colour = String::new();
+    if let Some(decision) = decision {
+        lines.push(format!("decides {decision}"));
+        colour = format!(", fillcolor=\"{}\"", colour_of(decision));
+    }
+    format!("    {} [label=\"{}\"{colour}];\n", entry.number, lines.join("\\n"))
+}
+
+/// The word stands in the box too, for those who tell no red from green.
+fn colour_of(decision: Decision) -> &'static str {
     match decision {
         Decision::Unspecified => "#eeeeee",
         Decision::Deny => "#f4c7c3",

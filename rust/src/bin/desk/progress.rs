@@ -25,10 +25,16 @@ pub fn verdict(table: &Table, question: u32, budget: u32) -> Result<Verdict, Ref
     if !is_terminal() {
         return ask(budget);
     }
+    let most: u32 = (2 << table.counts.predicates) - 1;
+    let limit = if budget < most { format!(" (budget {budget})") } else { String::new() };
+    let words = move |known, seconds| {
+        format!(
+            "question {question}: more than {known} of at most {most} visits{limit}, {seconds} s"
+        )
+    };
     thread::scope(|scope| {
         let (known, visits) = mpsc::channel();
-        let most = (2 << table.counts.predicates) - 1;
-        scope.spawn(move || tell(question, most, &visits));
+        scope.spawn(move || tell(words, &visits));
         for small in rising(budget) {
             match ask(small)? {
                 // The other end is there until this one is gone.
@@ -48,7 +54,7 @@ fn rising(budget: u32) -> impl Iterator<Item = u32> {
 
 /// Tells on one line of the terminal how many visits are known to be needed, each time that is
 /// learnt and each time that a pause is over; takes the line away once nobody learns any more.
-fn tell(question: u32, most: u32, visits: &Receiver<u32>) {
+fn tell(words: impl Fn(u32, u64) -> String, visits: &Receiver<u32>) {
     let began = Instant::now();
     let mut known = 0;
     loop {
@@ -58,10 +64,7 @@ fn tell(question: u32, most: u32, visits: &Receiver<u32>) {
             Err(RecvTimeoutError::Disconnected) => break,
         }
         if began.elapsed() >= PAUSE {
-            let seconds = began.elapsed().as_secs();
-            on_the_line(&format!(
-                "question {question}: more than {known} of at most {most} visits, {seconds} s"
-            ));
+            on_the_line(&words(known, began.elapsed().as_secs()));
         }
     }
     if began.elapsed() >= PAUSE {

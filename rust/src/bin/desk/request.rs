@@ -1,6 +1,6 @@
 //! The predicates that a clerk gives, and masks of them.
 
-use crate::arguments::Number;
+use crate::number::Number;
 use crate::words::listed;
 
 /// The mask of some predicates. A number that has no bit in a mask gets the highest, which the

@@ -3,19 +3,29 @@
 use std::ffi::OsStr;
 use std::fs::File;
 use std::io::{self, Read};
+use std::os::unix::io::AsFd;
 
 use pierstride::{Counts, Kind, Numbered, TextRefusal};
 
 use crate::explain;
 use crate::line;
 use crate::trouble::{Refused, Trouble};
-use crate::words::visible;
+use crate::words::file_name;
 
 /// How a table is written down.
 #[derive(Clone, Copy, PartialEq, Eq)]
 pub enum Form {
     Bytes,
     Text,
+}
+
+impl Form {
+    pub fn name(self) -> &'static str {
+        match self {
+            Form::Bytes => "bytes",
+            Form::Text => "text",
+        }
+    }
 }
 
 /// A table that the library accepted.
@@ -43,20 +53,25 @@ const MOST_READ: usize = 64 << 20;
 /// The table of a file, or of standard input for `-`.
 pub fn load(path: &OsStr) -> Result<Table, Trouble> {
     let (name, given) = match path.to_str() {
-        Some("-") => ("standard input".into(), front(io::stdin())),
-        _ => (path.to_string_lossy(), File::open(path).and_then(front)),
+        Some("-") => ("standard input".to_owned(), standard_input().and_then(front)),
+        _ => (file_name(&path.to_string_lossy()), File::open(path).and_then(front)),
     };
     let given = given.map_err(|error| Trouble::of_file(&name, "read", &error))?;
     let form = form_of(&given);
     if form == Form::Text && given.len() > MOST_READ {
         let most = MOST_READ >> 20;
-        let name = visible(&name);
         return Err(Trouble::File(format!("{name} is longer than {most} MiB, and no text is")));
     }
     read(form, given).map_err(Trouble::Refused)
 }
 
-/// As many bytes as are read, and one more where there are more.
+/// Standard input as a file: the library's own `stdin` takes one that was opened for writing to
+/// be empty.
+fn standard_input() -> io::Result<File> {
+    io::stdin().as_fd().try_clone_to_owned().map(File::from)
+}
+
+/// The most that is read of a file, and one byte more, which shows that there are more.
 fn front(file: impl Read) -> io::Result<Vec<u8>> {
     let mut bytes = Vec::new();
     file.take(MOST_READ as u64 + 1).read_to_end(&mut bytes)?;

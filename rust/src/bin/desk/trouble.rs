@@ -3,7 +3,6 @@
 use std::io::{self, Write};
 
 use crate::json::{object, Json};
-use crate::words::visible;
 use crate::Status;
 
 /// Why there is no answer.
@@ -39,29 +38,28 @@ pub enum Place {
 }
 
 impl Trouble {
-    /// Tells it on standard error, and how the program ends. Where standard error cannot be
-    /// written, the exit status alone tells it.
+    /// Tells it, and how the program ends.
     pub fn tell(&self) -> Status {
-        let (words, status) = match self {
-            Trouble::Usage { why, see } => (format!("desk: {why}\n{see}\n"), Status::Failed),
-            Trouble::File(why) => (format!("desk: {why}\n"), Status::Failed),
-            Trouble::Closed => (String::new(), Status::Failed),
-            Trouble::Refused(refused) => (refused.words(), Status::Refused),
-        };
-        let _ = io::stderr().write_all(words.as_bytes());
-        status
+        match self {
+            Trouble::Usage { why, see } => tell(&format!("desk: {why}\n{see}\n")),
+            Trouble::File(why) => tell(&format!("desk: {why}\n")),
+            Trouble::Closed => {}
+            Trouble::Refused(refused) => return refused.tell(),
+        }
+        Status::Failed
     }
 
     /// A file that cannot be read or written, as `done` says.
     pub fn of_file(name: &str, done: &str, error: &io::Error) -> Trouble {
         let error = error.to_string();
         let plain = error.split(" (os error").next().unwrap_or_default();
-        Trouble::File(format!("{} cannot be {done}: {plain}", visible(name)))
+        Trouble::File(format!("{name} cannot be {done}: {plain}"))
     }
 }
 
 impl Refused {
-    fn words(&self) -> String {
+    /// Tells it, and how the program ends.
+    pub fn tell(&self) -> Status {
         let Refused { number, message, .. } = self;
         let place = match self.place {
             Place::Byte(place) => format!(" at byte {place}"),
@@ -69,7 +67,8 @@ impl Refused {
             Place::Nothing => String::new(),
         };
         let hint = self.hint.map(|hint| hint.to_owned() + "\n").unwrap_or_default();
-        format!("refused {number}{place}: {message}\n{hint}")
+        tell(&format!("refused {number}{place}: {message}\n{hint}"));
+        Status::Refused
     }
 
     pub fn object(&self) -> Json {
@@ -78,8 +77,14 @@ impl Refused {
             Place::Line(place) => Some(("line", place.into())),
             Place::Nothing => None,
         };
-        let fields = [Some(("refused", self.number.into())), place];
-        let message = Some(("message", self.message.as_str().into()));
-        object(fields.into_iter().chain([message]).flatten())
+        let (number, message) = (self.number.into(), self.message.as_str().into());
+        let hint = self.hint.map(|hint| ("hint", hint.into()));
+        let fields = [Some(("refused", number)), place, Some(("message", message)), hint];
+        object(fields.into_iter().flatten())
     }
+}
+
+/// On standard error. Where that cannot be written, the exit status alone tells it.
+fn tell(words: &str) {
+    let _ = io::stderr().write_all(words.as_bytes());
 }

@@ -1,4 +1,4 @@
-//! How people say things: counts, lists, quotations.
+//! How people say things: counts, lists, quotations, what was perhaps meant.
 
 use std::fmt::Display;
 
@@ -28,29 +28,30 @@ pub fn quoted(written: &[u8]) -> String {
     format!("`{}`", shortened(written))
 }
 
-/// What somebody else wrote, if it is not too long, else the front of it.
+/// What somebody else wrote, or the front of it if it is long. What is no plain character of a
+/// text is spelled out: it may be invisible, look like another, or be acted on by a terminal.
 pub fn shortened(written: &[u8]) -> String {
     // No character has more than four bytes.
     let front = String::from_utf8_lossy(&written[..written.len().min(4 * MOST_SHOWN + 4)]);
-    match front.char_indices().nth(MOST_SHOWN) {
-        Some((end, _)) => visible(&front[..end]) + "…",
-        None => visible(&front),
+    let is_plain = |c: char| matches!(c, ' '..='~');
+    let shown = spelled_out(front.chars().take(MOST_SHOWN), is_plain);
+    match front.chars().nth(MOST_SHOWN) {
+        Some(_) => shown + "…",
+        None => shown,
     }
 }
 
-/// On one line, each character that a terminal would act on spelled out.
-pub fn visible(written: &str) -> String {
-    written.chars().flat_map(printable).collect()
+/// The name of a file, in quotes and whole.
+pub fn file_name(name: &str) -> String {
+    format!("`{}`", spelled_out(name.chars(), |c| !c.is_control()))
 }
 
-fn printable(c: char) -> Vec<char> {
-    // Control characters, and those that turn the direction of what follows.
-    let turns =
-        matches!(c, '\u{200E}'..='\u{200F}' | '\u{2028}'..='\u{202E}' | '\u{2066}'..='\u{2069}');
-    match c.is_control() || turns {
-        true => c.escape_default().collect(),
-        false => vec![c],
-    }
+fn spelled_out(written: impl Iterator<Item = char>, is_plain: impl Fn(char) -> bool) -> String {
+    let shown = written.map(|c| match is_plain(c) {
+        true => c.to_string(),
+        false => c.escape_default().to_string(),
+    });
+    shown.collect()
 }
 
 /// The one of some words that was perhaps meant: the nearest, if no more than a third of its
@@ -64,9 +65,9 @@ pub fn meant<'a>(written: &[u8], words: impl Iterator<Item = &'a str>) -> Option
 
 /// How many letters have to be changed, put in or left out to make one word the other.
 fn distance(from: &[u8], to: &[u8]) -> usize {
-    // No word is so long, and the work grows with the length.
+    // More than these letters have to be left out; and the work would grow with them.
     if from.len() > 2 * to.len() {
-        return from.len();
+        return from.len() - to.len();
     }
     let mut row: Vec<usize> = (0..=to.len()).collect();
     for (i, a) in from.iter().enumerate() {

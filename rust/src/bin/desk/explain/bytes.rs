@@ -1,4 +1,4 @@
-//! Of a table's bytes.
+//! The words for a refused table's bytes.
 
 use pierstride::{Kind, Refusal, KINDS};
 
@@ -42,7 +42,7 @@ fn of_entry(table: &[u8], start: usize, kind: &'static Kind, refusal: Refusal) -
     let line: String = numbers.iter().map(|number| format!(" {number}")).collect();
     let shown = format!("{own} ({}{line})", kind.word);
     let before = pierstride::read(&table[..start]).expect("what is before the first bad entry");
-    Bad { shown, kind, numbers, before }.why(refusal)
+    Bad { shown, kind, numbers, before }.why(refusal.number)
 }
 
 fn in_hex(bytes: &[u8]) -> String {
@@ -53,7 +53,7 @@ fn in_hex(bytes: &[u8]) -> String {
 /// Every kind byte, in runs: "00 to 03, 10, 11".
 fn all_kinds() -> String {
     let mut runs: Vec<Vec<u8>> = Vec::new();
-    for Kind { byte, .. } in &KINDS {
+    for Kind { byte, .. } in KINDS {
         match runs.last_mut() {
             Some(run) if run.last() == Some(&(byte - 1)) => run.push(*byte),
             _ => runs.push(vec![*byte]),

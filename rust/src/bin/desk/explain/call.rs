@@ -1,9 +1,9 @@
-//! Of what was asked of a table that was accepted: 8 to 11.
+//! The words for what was asked of an accepted table and refused: 8 to 11.
 
 use pierstride::{Numbered, Refusal, PREDICATES};
 
 use super::from_zero;
-use crate::arguments::Asked;
+use crate::asked::Asked;
 use crate::table::{Entry, Table};
 use crate::trouble::{Place, Refused};
 use crate::words::listed;
@@ -23,7 +23,7 @@ pub fn of_call(table: &Table, asked: &Asked, refusal: Refusal) -> Refused {
 }
 
 fn missing(table: &Table, asked: &Asked) -> Option<String> {
-    let (what, number) = (asked.verb.operand.what()?, asked.number.as_ref()?);
+    let (what, number) = (asked.verb.operand?.of, asked.operand.as_ref()?);
     let there = match table.count(what) {
         0 => format!("no {what}s"),
         count => from_zero(what, count),
@@ -32,7 +32,7 @@ fn missing(table: &Table, asked: &Asked) -> Option<String> {
 }
 
 fn still_named(table: &Table, asked: &Asked) -> Option<String> {
-    let row = asked.number.as_ref()?;
+    let row = asked.operand.as_ref()?;
     let entries = table.entries();
     let names_it = |entry: &&Entry| entry.named(Numbered::Row).any(|named| named == row.value);
     let naming: Vec<&Entry> = entries.iter().filter(names_it).collect();
@@ -47,7 +47,7 @@ fn still_named(table: &Table, asked: &Asked) -> Option<String> {
 }
 
 fn no_predicate(asked: &Asked) -> Option<String> {
-    let mut given = asked.yes.iter().chain(&asked.no).flatten();
+    let mut given = asked.options.yes.iter().chain(&asked.options.no).flatten();
     let number = given.find(|number| number.value >= PREDICATES)?;
     Some(format!("there is no predicate {number}; the predicates are 0 to {}", PREDICATES - 1))
 }

@@ -1,7 +1,7 @@
 //! A refusal in words that a clerk can act on: the entry, what was found, what is allowed.
 //!
 //! The library alone says what is refused, with which number and where. This only looks for the
-//! words; where it finds none, the package's own message stands.
+//! words; where it finds none, the package's own reason stands.
 
 mod bytes;
 mod call;
@@ -28,16 +28,14 @@ struct Bad {
 
 impl Bad {
     /// Why: refusals 3 to 7.
-    fn why(&self, refusal: Refusal) -> String {
-        let allowed = match refusal.number {
-            3 | 4 => return self.misnamed().unwrap_or_else(|| refusal.reason().to_owned()),
-            5 => "all rows stand before all questions".to_owned(),
-            _ => {
-                let is = self.kind.is;
-                format!("a table has at most {}", counted(count(&self.before, is), is))
-            }
-        };
-        format!("{} {}; {allowed}", self.shown, refusal.reason())
+    fn why(&self, number: u32) -> String {
+        let (shown, reason) = (&self.shown, Refusal { number, place: 0 }.reason());
+        let most = |is| counted(count(&self.before, is), is);
+        match number {
+            3 | 4 => self.misnamed().unwrap_or_else(|| format!("{shown}: {reason}")),
+            5 => format!("{shown} {reason}; all rows stand before all questions"),
+            _ => format!("{shown} {reason}; a table has at most {}", most(self.kind.is)),
+        }
     }
 
     /// The first number that may not be named there, and which may.

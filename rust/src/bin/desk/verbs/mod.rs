@@ -4,16 +4,19 @@ mod questions;
 mod rows;
 mod tables;
 
+use std::ffi::OsStr;
+
 use pierstride::Numbered;
 
-use crate::arguments::Asked;
+use crate::asked::{Asked, Options};
+use crate::number::Number;
 use crate::trouble::Trouble;
 use crate::Status;
 
 pub struct Verb {
     pub name: &'static str,
-    /// What stands behind the table.
-    pub operand: Operand,
+    /// What stands behind the table, if anything does.
+    pub operand: Option<Operand>,
     /// Its own options; every verb has `--json` too.
     pub options: &'static [Flag],
     /// A line of the list of verbs.
@@ -26,33 +29,73 @@ pub struct Verb {
 
 /// The number behind the table.
 #[derive(Clone, Copy)]
-pub enum Operand {
-    None,
-    One(Numbered),
-    Maybe(Numbered),
+pub struct Operand {
+    pub name: &'static str,
+    /// What it is the number of.
+    pub of: Numbered,
+    pub required: bool,
 }
 
 pub struct Flag {
     pub name: &'static str,
-    /// What its value is called, if it takes one.
-    pub value: Option<&'static str>,
+    /// What its value is, if it takes one.
+    pub value: Option<Value>,
     pub about: &'static str,
+    /// Sets it, and tells whether it was set before; nothing where the value is none for it.
+    pub set: fn(&mut Options, &OsStr) -> Option<bool>,
 }
 
-const JSON: Flag =
-    Flag { name: "--json", value: None, about: "the answer as one JSON object on one line" };
-
-const OUTPUT: Flag =
-    Flag { name: "-o", value: Some("FILE"), about: "write it to FILE, whole or not at all" };
-
-const fn yes(about: &'static str) -> Flag {
-    Flag { name: "--yes", value: Some("LIST"), about }
+#[derive(Clone, Copy)]
+pub struct Value {
+    pub name: &'static str,
+    pub is: &'static str,
 }
 
-pub static VERBS: [Verb; 9] = [
+const ROW: Operand = Operand { name: "ROW", of: Numbered::Row, required: true };
+const QUESTION: Operand = Operand { name: "QUESTION", of: Numbered::Question, required: true };
+
+const LIST: Value = Value { name: "LIST", is: "numbers with commas between them, or none" };
+const FILE: Value = Value { name: "FILE", is: "the name of a file" };
+
+const JSON: Flag = Flag {
+    name: "--json",
+    value: None,
+    about: "the answer as one JSON object on one line",
+    set: |options, _| Some(std::mem::replace(&mut options.json, true)),
+};
+
+const OUTPUT: Flag = Flag {
+    name: "-o",
+    value: Some(FILE),
+    about: "write it to FILE, whole or not at all",
+    set: |options, value| Some(options.file.replace(value.to_owned()).is_some()),
+};
+
+const YES: Flag = Flag {
+    name: "--yes",
+    value: Some(LIST),
+    about: "the predicates that are yes, as 0,3, or none; all others are no",
+    set: |options, value| Some(options.yes.replace(Number::list(value)?).is_some()),
+};
+
+const NO: Flag = Flag {
+    name: "--no",
+    value: Some(LIST),
+    about: "the predicates known to be no; all others are unknown",
+    set: |options, value| Some(options.no.replace(Number::list(value)?).is_some()),
+};
+
+const BUDGET: Flag = Flag {
+    name: "--budget",
+    value: Some(Value::number("N")),
+    about: "how many visits each walk may make; without it, as many as it needs",
+    set: |options, value| Some(options.budget.replace(Number::new(value)?).is_some()),
+};
+
+pub static VERBS: &[Verb] = &[
     Verb {
         name: "check",
-        operand: Operand::None,
+        operand: None,
         options: &[],
         brief: "how many rows, questions and predicates, or the refusal",
         about: "How many rows and questions a table has, and how many predicates: one more\n\
@@ -62,7 +105,7 @@ pub static VERBS: [Verb; 9] = [
     },
     Verb {
         name: "text",
-        operand: Operand::None,
+        operand: None,
         options: &[OUTPUT],
         brief: "the table's text",
         about: "The table's text, one line an entry, as survey offices read it.",
@@ -71,7 +114,7 @@ pub static VERBS: [Verb; 9] = [
     },
     Verb {
         name: "bytes",
-        operand: Operand::None,
+        operand: None,
         options: &[OUTPUT],
         brief: "the table's bytes",
         about: "The table's bytes, as the catalogue server takes them.",
@@ -80,7 +123,7 @@ pub static VERBS: [Verb; 9] = [
     },
     Verb {
         name: "show",
-        operand: Operand::None,
+        operand: None,
         options: &[],
         brief: "each row and each question with its number",
         about: "The table for people: each row and each question with its number and its text.",
@@ -92,8 +135,8 @@ pub static VERBS: [Verb; 9] = [
     },
     Verb {
         name: "decide",
-        operand: Operand::One(Numbered::Row),
-        options: &[yes("the predicates that are yes, as 0,3, or none; all others are no")],
+        operand: Some(ROW),
+        options: &[YES],
         brief: "what a row decides, in a word",
         about: "What row ROW decides, in a word: unspecified, deny, grant or conflict.",
         example: ("desk decide examples/table-a.txt 4 --yes 0,1", "conflict"),
@@ -101,15 +144,8 @@ pub static VERBS: [Verb; 9] = [
     },
     Verb {
         name: "possible",
-        operand: Operand::One(Numbered::Row),
-        options: &[
-            yes("the predicates known to be yes, as 0,3, or none"),
-            Flag {
-                name: "--no",
-                value: Some("LIST"),
-                about: "the predicates known to be no; all others are unknown",
-            },
-        ],
+        operand: Some(ROW),
+        options: &[Flag { about: "the predicates known to be yes, as 0,3, or none", ..YES }, NO],
         brief: "the decisions that remain possible where facts are missing",
         about: "Which decisions of row ROW remain possible where facts are missing. The\n\
                 decision under every way of filling them in is among these.",
@@ -118,12 +154,8 @@ pub static VERBS: [Verb; 9] = [
     },
     Verb {
         name: "ask",
-        operand: Operand::Maybe(Numbered::Question),
-        options: &[Flag {
-            name: "--budget",
-            value: Some("N"),
-            about: "how many visits each walk may make; without it, as many as it needs",
-        }],
+        operand: Some(Operand { required: false, ..QUESTION }),
+        options: &[BUDGET],
         brief: "whether a question holds, or every question",
         about: "Whether question QUESTION is true at every request and, if not, the first\n\
                 request that breaks it; without QUESTION, of every question of the table.\n\
@@ -136,7 +168,7 @@ pub static VERBS: [Verb; 9] = [
     },
     Verb {
         name: "strike",
-        operand: Operand::One(Numbered::Row),
+        operand: Some(ROW),
         options: &[OUTPUT],
         brief: "the table without a row, in the form of the old",
         about: "The table without row ROW, in the form of the old. Every remaining row\n\
@@ -146,9 +178,9 @@ pub static VERBS: [Verb; 9] = [
     },
     Verb {
         name: "picture",
-        operand: Operand::One(Numbered::Row),
+        operand: Some(ROW),
         options: &[
-            yes("also what each row decides where these predicates are yes, as 0,3, or none"),
+            Flag { about: "also what each row decides where these alone are yes", ..YES },
             OUTPUT,
         ],
         brief: "the rows that a row reaches, as a Graphviz file",
@@ -168,25 +200,10 @@ impl Verb {
     /// "decide TABLE ROW"
     pub fn call(&self) -> String {
         match self.operand {
-            Operand::None => format!("{} TABLE", self.name),
-            Operand::One(_) => format!("{} TABLE {}", self.name, self.operand.name()),
-            Operand::Maybe(_) => format!("{} TABLE [{}]", self.name, self.operand.name()),
+            None => format!("{} TABLE", self.name),
+            Some(Operand { name, required: true, .. }) => format!("{} TABLE {name}", self.name),
+            Some(Operand { name, required: false, .. }) => format!("{} TABLE [{name}]", self.name),
         }
-    }
-}
-
-impl Operand {
-    /// What it is the number of.
-    pub fn what(self) -> Option<Numbered> {
-        match self {
-            Operand::None => None,
-            Operand::One(what) | Operand::Maybe(what) => Some(what),
-        }
-    }
-
-    /// "ROW"
-    pub fn name(self) -> String {
-        self.what().map(|what| what.to_string().to_uppercase()).unwrap_or_default()
     }
 }
 
@@ -194,8 +211,14 @@ impl Flag {
     /// "--yes LIST"
     pub fn usage(&self) -> String {
         match self.value {
-            Some(value) => format!("{} {value}", self.name),
+            Some(value) => format!("{} {}", self.name, value.name),
             None => self.name.to_owned(),
         }
+    }
+}
+
+impl Value {
+    pub const fn number(name: &'static str) -> Value {
+        Value { name, is: "a number, in digits alone" }
     }
 }

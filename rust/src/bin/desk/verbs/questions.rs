@@ -2,7 +2,7 @@
 
 use pierstride::Verdict;
 
-use crate::arguments::Asked;
+use crate::asked::Asked;
 use crate::json::{array, object, Json};
 use crate::progress;
 use crate::request::{in_words, predicates};
@@ -13,14 +13,13 @@ use crate::Status;
 
 pub fn ask(asked: &Asked) -> Result<Status, Trouble> {
     let table = asked.table()?;
-    match asked.number {
-        Some(_) => ask_one(asked, &table),
+    match &asked.operand {
+        Some(question) => ask_one(asked, &table, question.value),
         None => ask_all(asked, &table),
     }
 }
 
-fn ask_one(asked: &Asked, table: &Table) -> Result<Status, Trouble> {
-    let question = asked.number();
+fn ask_one(asked: &Asked, table: &Table, question: u32) -> Result<Status, Trouble> {
     let verdict = verdict(asked, table, question)?;
     asked.output().answer(words(verdict), in_json(question, verdict))?;
     Ok(status(&[verdict]))
@@ -43,7 +42,7 @@ fn ask_all(asked: &Asked, table: &Table) -> Result<Status, Trouble> {
 }
 
 fn verdict(asked: &Asked, table: &Table, question: u32) -> Result<Verdict, Trouble> {
-    let budget = asked.budget.as_ref().map_or(u32::MAX, |number| number.value);
+    let budget = asked.options.budget.as_ref().map_or(u32::MAX, |number| number.value);
     asked.answered(table, progress::verdict(table, question, budget))
 }
 
@@ -54,22 +53,23 @@ fn status(verdicts: &[Verdict]) -> Status {
     }
 }
 
-fn words(verdict: Verdict) -> String {
+/// A verdict's name, its count of visits, and the request that breaks the question.
+fn parts(verdict: Verdict) -> (&'static str, u32, Option<u32>) {
     match verdict {
-        Verdict::Holds { visits } => format!("holds after {}", counted(visits, "visit")),
-        Verdict::Fails { request, visits } => {
-            format!("fails at {}, after {}", in_words(request), counted(visits, "visit"))
-        }
-        Verdict::Unfinished { budget } => format!("unfinished after {}", counted(budget, "visit")),
-    }
-}
-
-fn in_json(question: u32, verdict: Verdict) -> Json {
-    let (name, visits, request) = match verdict {
         Verdict::Holds { visits } => ("holds", visits, None),
         Verdict::Fails { request, visits } => ("fails", visits, Some(request)),
         Verdict::Unfinished { budget } => ("unfinished", budget, None),
-    };
+    }
+}
+
+fn words(verdict: Verdict) -> String {
+    let (name, visits, request) = parts(verdict);
+    let request = request.map(|request| format!(" at {},", in_words(request)));
+    format!("{name}{} after {}", request.unwrap_or_default(), counted(visits, "visit"))
+}
+
+fn in_json(question: u32, verdict: Verdict) -> Json {
+    let (name, visits, request) = parts(verdict);
     let fields =
         [("question", question.into()), ("verdict", name.into()), ("visits", visits.into())];
     let yes = request.map(|request| ("yes", array(predicates(request))));

@@ -2,7 +2,7 @@
 
 use pierstride::Numbered;
 
-use crate::arguments::Asked;
+use crate::asked::Asked;
 use crate::json::{array, object};
 use crate::table::{text_of, Form};
 use crate::trouble::Trouble;
@@ -12,22 +12,15 @@ use crate::Status;
 pub fn check(asked: &Asked) -> Result<Status, Trouble> {
     let table = asked.table()?;
     let counts = [
-        (Numbered::Row, table.counts.rows),
-        (Numbered::Question, table.counts.questions),
-        (Numbered::Predicate, table.counts.predicates),
+        ("rows", Numbered::Row, table.counts.rows),
+        ("questions", Numbered::Question, table.counts.questions),
+        ("predicates", Numbered::Predicate, table.counts.predicates),
     ];
-    let form = match table.form {
-        Form::Bytes => "bytes",
-        Form::Text => "text",
-    };
-    let fields = [
-        ("form", form.into()),
-        ("rows", table.counts.rows.into()),
-        ("questions", table.counts.questions.into()),
-        ("predicates", table.counts.predicates.into()),
-    ];
-    let words = counts.map(|(things, count)| counted(count, things)).join(", ");
-    asked.output().answer(words, object(fields))
+    let words = counts.map(|(_, things, count)| counted(count, things)).join(", ");
+    let fields = counts.map(|(name, _, count)| (name, count.into()));
+    let form = ("form", table.form.name().into());
+    asked.output().answer(words, object([form].into_iter().chain(fields)))?;
+    Ok(Status::Answered)
 }
 
 pub fn text(asked: &Asked) -> Result<Status, Trouble> {
@@ -48,16 +41,18 @@ pub fn strike(asked: &Asked) -> Result<Status, Trouble> {
 
 /// The table of these bytes, in a form.
 fn write(asked: &Asked, form: Form, bytes: &[u8]) -> Result<Status, Trouble> {
+    let (out, name) = (asked.output(), form.name());
     match form {
         Form::Text => {
             let text = text_of(bytes);
-            asked.output().document(text.as_bytes(), "text", &text)
+            out.document(text.as_bytes(), name, &text)?;
         }
         Form::Bytes => {
             let digits: String = bytes.iter().map(|byte| format!("{byte:02x}")).collect();
-            asked.output().document(bytes, "bytes", &digits)
+            out.document(bytes, name, &digits)?;
         }
     }
+    Ok(Status::Answered)
 }
 
 pub fn show(asked: &Asked) -> Result<Status, Trouble> {
@@ -74,5 +69,6 @@ pub fn show(asked: &Asked) -> Result<Status, Trouble> {
     };
     let rows = ("rows", listed(Numbered::Row, "row"));
     let questions = ("questions", listed(Numbered::Question, "question"));
-    asked.output().object(object([rows, questions]))
+    asked.output().object(object([rows, questions]))?;
+    Ok(Status::Answered)
 }
