@@ -1,0 +1,287 @@
+//! Every verb on tables in both forms, from a file and from standard input.
+
+use pierstride_oracle::call::Call;
+use pierstride_oracle::{crafted, notebook};
+
+use crate::expected::{text_of, Request};
+use crate::harness::{answer, answer_on, words, Outcome, Scratch, TABLE_A, TABLE_A_BYTES};
+use crate::json::Objects;
+
+/// A verb with what follows the table A, and the status and the words of the answer. The
+/// words are those of the page, or what these make clear.
+#[rustfmt::skip]
+const ANSWERS: &[(&str, i32, &str)] = &[
+    ("check", 0, "6 rows, 3 questions, 2 predicates\n"),
+    ("text", 0, TEXT_A),
+    ("show", 0, "\
+row 0       grant-if 0
+row 1       deny-if 1
+row 2       knowledge-join 0 1
+row 3       deny
+row 4       override-unspecified 2 3
+row 5       closed-default 2
+question 0  truth-at-or-below 4 5
+question 1  truth-at-or-below 5 4
+question 2  both 0 1
+"),
+    ("decide 4", 0, "deny\n"),
+    ("decide 4 --yes none", 0, "deny\n"),
+    ("decide 4 --yes ", 0, "deny\n"),
+    ("decide 4 --yes 0", 0, "grant\n"),
+    ("decide 4 --yes 1", 0, "deny\n"),
+    ("decide 4 --yes 0,1", 0, "conflict\n"),
+    ("decide 4 --yes 1,0,23", 0, "conflict\n"),
+    ("decide 2", 0, "unspecified\n"),
+    ("decide 3 --yes 2,3,4,5,6,7,8,9,10,11,12,13,14,15,16,17,18,19,20,21,22,23", 0, "deny\n"),
+    ("possible 4", 0, "deny, grant or conflict\n"),
+    ("possible 2", 0, "unspecified, deny, grant or conflict\n"),
+    ("possible 4 --yes none --no none", 0, "deny, grant or conflict\n"),
+    ("possible 4 --yes  --no ", 0, "deny, grant or conflict\n"),
+    ("possible 4 --yes 0", 0, "grant or conflict\n"),
+    ("possible 4 --yes 0 --no 1", 0, "grant\n"),
+    ("possible 4 --no 0,1", 0, "deny\n"),
+    ("possible 4 --no 0 --yes 1,22", 0, "deny\n"),
+    ("ask", 1, "\
+question 0: fails at predicates 0 and 1 yes, all others no, after 5 visits
+question 1: holds after 5 visits
+question 2: fails at predicates 0 and 1 yes, all others no, after 5 visits
+"),
+    ("ask 0", 1, "fails at predicates 0 and 1 yes, all others no, after 5 visits\n"),
+    ("ask 1", 0, "holds after 5 visits\n"),
+    ("ask 1 --budget 5", 0, "holds after 5 visits\n"),
+    ("ask 1 --budget 4", 1, "unfinished after 4 visits\n"),
+    ("ask 2 --budget 0", 1, "unfinished after 0 visits\n"),
+    ("ask 2 --budget 1", 1, "unfinished after 1 visit\n"),
+    ("ask --budget 4", 1, "\
+question 0: unfinished after 4 visits
+question 1: unfinished after 4 visits
+question 2: unfinished after 4 visits
+"),
+    ("picture 5", 0, "\
+digraph \"row 5\" {
+    graph [ordering=out, fontname=\"Helvetica\"];
+    node [shape=box, style=filled, fillcolor=white, fontname=\"Helvetica\"];
+    5 [label=\"row 5\\nclosed-default 2\"];
+    2 [label=\"row 2\\nknowledge-join 0 1\"];
+    1 [label=\"row 1\\ndeny-if 1\"];
+    0 [label=\"row 0\\ngrant-if 0\"];
+    5 -> 2;
+    2 -> 0;
+    2 -> 1;
+}
+"),
+];
+
+const TEXT_A: &str = pierstride_oracle::spellings::TEXT_A;
+
+/// The same with `--json`, where both forms have the same object.
+#[rustfmt::skip]
+const OBJECTS: &[(&str, i32, &str)] = &[
+    ("bytes", 0, r#"{"bytes":"11001001330001013802032202400405400504430001"}"#),
+    ("decide 4 --yes 0", 0, r#"{"row":4,"yes":[0],"decision":"grant"}"#),
+    ("decide 2", 0, r#"{"row":2,"yes":[],"decision":"unspecified"}"#),
+    ("possible 2 --no 0,1", 0, r#"{"row":2,"yes":[],"no":[0,1],"possible":["unspecified"]}"#),
+    ("possible 4", 0, r#"{"row":4,"yes":[],"no":[],"possible":["deny","grant","conflict"]}"#),
+    ("ask 0", 1, r#"{"question":0,"verdict":"fails","visits":5,"yes":[0,1]}"#),
+    ("ask 1", 0, r#"{"question":1,"verdict":"holds","visits":5}"#),
+    ("ask 2 --budget 4", 1, r#"{"question":2,"verdict":"unfinished","visits":4}"#),
+    ("ask", 1, concat!(
+        r#"{"verdicts":[{"question":0,"verdict":"fails","visits":5,"yes":[0,1]},"#,
+        r#"{"question":1,"verdict":"holds","visits":5},"#,
+        r#"{"question":2,"verdict":"fails","visits":5,"yes":[0,1]}]}"#,
+    )),
+];
+
+/// Runs a verb on both forms of a table, each from a file and from standard input; what is
+/// asked is the verb and what follows the table.
+fn every_way(asked: &str, forms: [&[u8]; 2]) -> [Outcome; 4] {
+    let scratch = Scratch::new();
+    let asked: Vec<&str> = asked.split(' ').collect();
+    // The form goes by the first byte: a name says nothing.
+    let [bytes, text] = [("a.txt", forms[0]), ("b.bin", forms[1])];
+    let [bytes_file, text_file] = [bytes, text].map(|(name, form)| scratch.write(name, form));
+    [
+        answer(&words(asked[0], &bytes_file, &asked[1..])),
+        answer(&words(asked[0], &text_file, &asked[1..])),
+        answer_on(forms[0], &words(asked[0], "-", &asked[1..])),
+        answer_on(forms[1], &words(asked[0], "-", &asked[1..])),
+    ]
+}
+
+#[test]
+fn every_verb_answers_in_words() {
+    for &(asked, status, out) in ANSWERS {
+        for outcome in every_way(asked, TABLE_A_BYTES) {
+            assert_eq!(outcome, Outcome::answer(status, out), "{asked}");
+        }
+    }
+    for outcome in every_way("bytes", TABLE_A_BYTES) {
+        assert_eq!(outcome, Outcome::answer(0, TABLE_A_BYTES[0]));
+    }
+}
+
+#[test]
+fn every_verb_answers_with_an_object() {
+    let mut objects = Objects::default();
+    for &(asked, status, object) in OBJECTS {
+        for outcome in every_way(&format!("{asked} --json"), TABLE_A_BYTES) {
+            assert_eq!((outcome.status, outcome.err()), (status, ""), "{asked}");
+            objects.add(asked, &outcome, object.to_string());
+        }
+    }
+    for request in [Request::Check, Request::Text, Request::Show] {
+        let outcomes = every_way(&asked(request, "--json"), TABLE_A_BYTES);
+        for (way, outcome) in outcomes.iter().enumerate() {
+            let expected = request.answer(TABLE_A_BYTES[way % 2]);
+            objects.add(asked(request, ""), outcome, expected.check_json(outcome));
+        }
+    }
+    objects.check();
+}
+
+/// A request without its table.
+fn asked(request: Request, option: &str) -> String {
+    let mut arguments = request.arguments();
+    arguments.remove(1);
+    arguments.push(option.to_string());
+    arguments.join(" ").trim_end().to_string()
+}
+
+#[test]
+fn a_table_is_struck_in_the_form_of_the_old() {
+    let table = notebook::hex(notebook::STRIKING);
+    let text = text_of(&table);
+    let forms = [&table[..], text.as_bytes()];
+    let struck: [&[u8]; 2] =
+        [b"\x02\x20\x00\x40\x00\x01", b"grant\nnegation 0\ntruth-at-or-below 0 1\n"];
+    for (way, outcome) in every_way("strike 0", forms).into_iter().enumerate() {
+        assert_eq!(outcome, Outcome::answer(0, struck[way % 2]));
+    }
+    let mut objects = Objects::default();
+    for (way, outcome) in every_way("strike 0 --json", forms).iter().enumerate() {
+        let expected = Request::Strike { row: 0 }.answer(forms[way % 2]);
+        objects.add("strike 0", outcome, expected.check_json(outcome));
+    }
+    objects.check();
+}
+
+#[test]
+fn options_stand_anywhere_behind_the_verb() {
+    let expected = Outcome::answer(0, "{\"row\":4,\"yes\":[0],\"decision\":\"grant\"}\n");
+    let table = TABLE_A[0];
+    let orders: [[&str; 6]; 4] = [
+        ["decide", "--yes", "0", "--json", table, "4"],
+        ["decide", "--json", table, "--yes", "0", "4"],
+        ["decide", table, "--yes", "0", "4", "--json"],
+        ["decide", table, "4", "--json", "--yes", "0"],
+    ];
+    for order in orders {
+        assert_eq!(answer(&order), expected, "{order:?}");
+    }
+    let joined: [&[&str]; 3] = [
+        &["decide", table, "4", "--yes=0", "--json"],
+        &["decide", "--yes=0", "--json", "--", table, "4"],
+        &["decide", "--json", table, "--yes", "0", "--", "4"],
+    ];
+    for arguments in joined {
+        assert_eq!(answer(arguments), expected, "{arguments:?}");
+    }
+}
+
+#[test]
+fn an_option_may_be_joined_with_its_value() {
+    let joined: [(&[&str], i32, &str); 4] = [
+        (&["possible", TABLE_A[1], "4", "--yes=0", "--no=1"], 0, "grant\n"),
+        (&["ask", TABLE_A[1], "2", "--budget=4"], 1, "unfinished after 4 visits\n"),
+        (&["decide", TABLE_A[1], "4", "--yes="], 0, "deny\n"),
+        (&["decide", TABLE_A[1], "--yes=0,1", "4"], 0, "conflict\n"),
+    ];
+    for (arguments, status, out) in joined {
+        assert_eq!(answer(arguments), Outcome::answer(status, out), "{arguments:?}");
+    }
+}
+
+#[test]
+fn behind_two_minuses_nothing_is_an_option() {
+    let scratch = Scratch::new();
+    scratch.write("--json", TABLE_A_BYTES[0]);
+    let counts = Outcome::answer(0, "6 rows, 3 questions, 2 predicates\n");
+    assert_eq!(scratch.answer(&["check", "--", "--json"]), counts);
+    assert_eq!(scratch.answer(&["check", "./--json"]), counts);
+    let decision = Outcome::answer(0, "grant\n");
+    assert_eq!(scratch.answer(&["decide", "--yes", "0", "--", "--json", "4"]), decision);
+}
+
+#[test]
+fn the_empty_table_is_a_table() {
+    let nothing: [&[u8]; 2] = [b"", b""];
+    let answers = [
+        ("check", "0 rows, 0 questions, 0 predicates\n"),
+        ("check --json", "{\"form\":\"bytes\",\"rows\":0,\"questions\":0,\"predicates\":0}\n"),
+        ("text", ""),
+        ("text --json", "{\"text\":\"\"}\n"),
+        ("bytes", ""),
+        ("bytes --json", "{\"bytes\":\"\"}\n"),
+        ("show", ""),
+        ("show --json", "{\"rows\":[],\"questions\":[]}\n"),
+        ("ask", "the table has no questions\n"),
+        ("ask --json", "{\"verdicts\":[]}\n"),
+    ];
+    for (asked, out) in answers {
+        for outcome in every_way(asked, nothing) {
+            assert_eq!(outcome, Outcome::answer(0, out), "{asked}");
+        }
+    }
+    for asked in ["decide 0", "possible 0", "strike 0", "picture 0", "ask 0"] {
+        for outcome in every_way(asked, nothing) {
+            let what = if asked == "ask 0" { "question" } else { "row" };
+            let said = outcome.err().starts_with(&format!("refused 8: there is no {what} 0; "));
+            assert!(outcome.status == 2 && said && outcome.out.is_empty(), "{asked}: {outcome:?}");
+        }
+    }
+}
+
+#[test]
+fn the_largest_table_is_a_table() {
+    let table = crafted::longest_text();
+    let text = text_of(&table);
+    let forms = [&table[..], text.as_bytes()];
+    for request in [Request::Check, Request::Text, Request::Bytes, Request::Show] {
+        for (way, outcome) in every_way(&asked(request, ""), forms).iter().enumerate() {
+            request.answer(forms[way % 2]).check_words(outcome);
+        }
+    }
+}
+
+#[test]
+fn all_questions_that_hold_give_status_0() {
+    let text = b"deny-if 0\ntruth-at-or-below 0 0\nknowledge-at-or-below 0 0\nboth 0 1\n";
+    let out = "\
+question 0: holds after 3 visits
+question 1: holds after 3 visits
+question 2: holds after 3 visits
+";
+    assert_eq!(answer_on(text, &["ask", "-"]), Outcome::answer(0, out));
+    let unfinished = answer_on(text, &["ask", "-", "--budget", "2"]);
+    assert_eq!(unfinished.status, 1, "{unfinished:?}");
+}
+
+#[test]
+fn the_notebook_is_answered() {
+    for (table, call, _) in notebook::cases() {
+        let request = match call {
+            Call::Read => Request::Check,
+            Call::Decide { row, yes } => Request::Decide { row, yes },
+            Call::Possible { row, known, yes } => Request::Possible { row, yes, no: known & !yes },
+            Call::Verdict { question, budget } => {
+                Request::Ask { question: Some(question), budget: Some(budget) }
+            }
+            Call::Strike { row, .. } => Request::Strike { row },
+            _ => continue,
+        };
+        let text = text_of(&table).into_bytes();
+        for input in [table, text] {
+            request.answer(&input).check_words(&answer_on(&input, &request.arguments()));
+        }
+    }
+}
