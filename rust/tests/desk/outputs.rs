@@ -272,6 +272,17 @@ fn a_link_to_nothing_stays_and_its_target_is_made() {
     assert_eq!(scratch.names(), ["b.txt", "link", "new"]);
 }
 
+#[test]
+fn a_link_to_itself_stays() {
+    let scratch = with_table_b();
+    std::os::unix::fs::symlink("link", scratch.path("link")).expect("a new link");
+    let why = "desk: `link` cannot be written: Too many levels of symbolic links\n";
+    let outcome = scratch.answer(&["strike", "b.txt", "0", "-o", "link"]);
+    assert_eq!(outcome, Outcome::complaint(3, why));
+    check_link(&scratch, "link", "link");
+    assert_eq!(scratch.names(), ["b.txt", "link"]);
+}
+
 /// Any name that the disk takes.
 #[test]
 fn a_file_with_the_longest_name() {

@@ -271,3 +271,22 @@ fn the_row_that_is_named_first_is_on_the_left() {
         assert!(place(left) < place(right), "{plain}");
     }
 }
+
+/// The words of an SVG and the colours of its boxes. Where they stand goes by the fonts of the
+/// machine that drew it.
+fn words_and_colours(svg: &str) -> Vec<&str> {
+    let words = svg.lines().filter_map(|line| line.strip_suffix("</text>")?.rsplit('>').next());
+    let colours = svg.lines().filter_map(|line| line.strip_prefix("<polygon fill=\"#"));
+    words.chain(colours.filter_map(|rest| rest.split('"').next())).collect()
+}
+
+#[test]
+fn the_readme_s_picture_is_that_of_row_4() {
+    let picture = answer(&["picture", TABLE_A[1], "4", "--yes", "0,1"]);
+    let drawn = dot("-Tsvg", picture.out());
+    let kept = words_and_colours(include_str!("../../../docs/row-4.svg"));
+    assert_eq!(kept, words_and_colours(&drawn), "make pictures draws it anew");
+    // The request, three lines for each of five rows, and their colours.
+    assert_eq!(kept.len(), 1 + 3 * 5 + 5);
+    assert!(include_str!("../../../README.md").contains("](docs/row-4.svg)"));
+}

@@ -35,7 +35,9 @@ grant-if 17
 grant-if 0
 guard 1 0
 unspecified
-truth-at-or-below 0 0
+negation 0
+negation 4
+truth-at-or-below 0 5
 truth-at-or-below 2 3
 both 0 1
 ";

@@ -82,7 +82,8 @@ fn replace(path: &Path, contents: &[u8]) -> io::Result<()> {
             }
             Some(old)
         }
-        Err(_) => None,
+        Err(error) if error.kind() == ErrorKind::NotFound => None,
+        Err(error) => return Err(error),
     };
     let (new, file) = new_beside(&path)?;
     let written = fill(file, contents, old).and_then(|()| fs::rename(&new, &path));

@@ -56,18 +56,19 @@ fn rising(budget: u32) -> impl Iterator<Item = u32> {
 /// learnt and each time that a pause is over; takes the line away once nobody learns any more.
 fn tell(words: impl Fn(u32, u64) -> String, visits: &Receiver<u32>) {
     let began = Instant::now();
-    let mut known = 0;
+    let (mut known, mut pauses) = (0, 0);
     loop {
-        match visits.recv_timeout(PAUSE) {
+        let pause = (PAUSE * (pauses + 1)).saturating_sub(began.elapsed());
+        match visits.recv_timeout(pause) {
             Ok(visits) => known = visits,
-            Err(RecvTimeoutError::Timeout) => {}
+            Err(RecvTimeoutError::Timeout) => pauses += 1,
             Err(RecvTimeoutError::Disconnected) => break,
         }
-        if began.elapsed() >= PAUSE {
+        if pauses > 0 {
             on_the_line(&words(known, began.elapsed().as_secs()));
         }
     }
-    if began.elapsed() >= PAUSE {
+    if pauses > 0 {
         on_the_line("");
     }
 }
