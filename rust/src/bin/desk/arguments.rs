@@ -112,13 +112,12 @@ fn set_option<'a>(
         (None, None) => OsStr::new(""),
         (Some(_), Some(value)) => value,
         (Some(takes), None) => {
-            let next = rest.next();
-            next.ok_or_else(|| format!("{} is missing behind {}", takes.name, flag.name))?
+            rest.next().ok_or_else(|| format!("{} is missing behind {}", takes.name, flag.name))?
         }
     };
     match (flag.set)(options, value) {
-        Some(true) => Err(format!("{} is given twice", flag.name)),
-        Some(false) => Ok(()),
-        None => Err(flag.value.map_or_else(String::new, |takes| no_value(takes, value))),
+        Ok(false) => Ok(()),
+        Ok(true) => Err(format!("{} is given twice", flag.name)),
+        Err(takes) => Err(no_value(takes, value)),
     }
 }

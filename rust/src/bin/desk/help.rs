@@ -16,15 +16,18 @@ pub fn of_verb(verb: &Verb) -> String {
     let mut words = format!("{}\n\n{}\n\n", usage(verb), verb.about);
     let flags: Vec<_> = verb.flags().map(|flag| (flag.usage(), flag.about)).collect();
     words += &columns(flags.iter().map(|(usage, about)| (usage.as_str(), *about)));
+    words + "\n" + &example(verb)
+}
+
+fn example(verb: &Verb) -> String {
     let (command, answer) = verb.example;
-    words += &format!("\nexample:\n  $ {command}");
-    answer.lines().for_each(|line| words += &format!("\n  {line}"));
-    words
+    let answer: String = answer.lines().map(|line| format!("\n  {line}")).collect();
+    format!("example:\n  $ {command}{answer}")
 }
 
 pub fn of_program() -> String {
     let verbs: Vec<_> = VERBS.iter().map(|verb| (verb.call(), verb.brief)).collect();
-    let (command, answer) = VERBS[0].example;
+    let example = example(&VERBS[0]);
     let verbs = columns(verbs.iter().map(|(call, brief)| (call.as_str(), *brief)));
     format!(
         "usage: desk VERB TABLE ...\n\
@@ -32,9 +35,7 @@ pub fn of_program() -> String {
          Asks the proved library about a rule table, and says the answer in words.\n\
          \n\
          {verbs}\n\
-         example:\n  \
-         $ {command}\n  \
-         {answer}\n\
+         {example}\n\
          \n\
          TABLE is a file, or - for standard input: a table's bytes, or its text.\n\
          Every verb takes --json, for the answer as one JSON object on one line, and --help,\n\

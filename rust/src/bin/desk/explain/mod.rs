@@ -29,12 +29,15 @@ struct Bad {
 impl Bad {
     /// Why: refusals 3 to 7.
     fn why(&self, number: u32) -> String {
-        let (shown, reason) = (&self.shown, Refusal { number, place: 0 }.reason());
-        let most = |is| counted(count(&self.before, is), is);
+        let (shown, is) = (&self.shown, self.kind.is);
+        let reason = Refusal { number, place: 0 }.reason();
         match number {
             3 | 4 => self.misnamed().unwrap_or_else(|| format!("{shown}: {reason}")),
             5 => format!("{shown} {reason}; all rows stand before all questions"),
-            _ => format!("{shown} {reason}; a table has at most {}", most(self.kind.is)),
+            _ => {
+                let most = counted(count(&self.before, is), is);
+                format!("{shown} {reason}; a table has at most {most}")
+            }
         }
     }
 

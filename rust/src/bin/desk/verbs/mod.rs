@@ -41,8 +41,8 @@ pub struct Flag {
     /// What its value is, if it takes one.
     pub value: Option<Value>,
     pub about: &'static str,
-    /// Sets it, and tells whether it was set before; nothing where the value is none for it.
-    pub set: fn(&mut Options, &OsStr) -> Option<bool>,
+    /// Sets it, and tells whether it was set before; or what its value should be.
+    pub set: fn(&mut Options, &OsStr) -> Result<bool, Value>,
 }
 
 #[derive(Clone, Copy)]
@@ -55,41 +55,42 @@ const ROW: Operand = Operand { name: "ROW", of: Numbered::Row, required: true };
 const QUESTION: Operand = Operand { name: "QUESTION", of: Numbered::Question, required: true };
 
 const LIST: Value = Value { name: "LIST", is: "numbers with commas between them, or none" };
+const N: Value = Value::number("N");
 const FILE: Value = Value { name: "FILE", is: "the name of a file" };
 
 const JSON: Flag = Flag {
     name: "--json",
     value: None,
     about: "the answer as one JSON object on one line",
-    set: |options, _| Some(std::mem::replace(&mut options.json, true)),
+    set: |options, _| Ok(std::mem::replace(&mut options.json, true)),
 };
 
 const OUTPUT: Flag = Flag {
     name: "-o",
     value: Some(FILE),
     about: "write it to FILE, whole or not at all",
-    set: |options, value| Some(options.file.replace(value.to_owned()).is_some()),
+    set: |options, value| Ok(options.file.replace(value.to_owned()).is_some()),
 };
 
 const YES: Flag = Flag {
     name: "--yes",
     value: Some(LIST),
     about: "the predicates that are yes, as 0,3, or none; all others are no",
-    set: |options, value| Some(options.yes.replace(Number::list(value)?).is_some()),
+    set: |options, value| Ok(options.yes.replace(Number::list(value).ok_or(LIST)?).is_some()),
 };
 
 const NO: Flag = Flag {
     name: "--no",
     value: Some(LIST),
     about: "the predicates known to be no; all others are unknown",
-    set: |options, value| Some(options.no.replace(Number::list(value)?).is_some()),
+    set: |options, value| Ok(options.no.replace(Number::list(value).ok_or(LIST)?).is_some()),
 };
 
 const BUDGET: Flag = Flag {
     name: "--budget",
-    value: Some(Value::number("N")),
+    value: Some(N),
     about: "how many visits each walk may make; without it, as many as it needs",
-    set: |options, value| Some(options.budget.replace(Number::new(value)?).is_some()),
+    set: |options, value| Ok(options.budget.replace(Number::new(value).ok_or(N)?).is_some()),
 };
 
 pub static VERBS: &[Verb] = &[
