@@ -45,17 +45,12 @@ impl Objects {
         self.lines.push((cause.into(), line.to_owned(), expected));
     }
 
-    /// Checks that each object has exactly the keys and values that it must have. The page
-    /// does not say whether the digits of hex are small letters.
+    /// Checks that each object has exactly the keys and values that it must have.
     pub fn check(self) {
         let found = parsed(self.lines.iter().map(|(_, found, _)| &found[..]));
         let expected = parsed(self.lines.iter().map(|(_, _, expected)| &expected[..]));
         for ((found, expected), (cause, ..)) in found.iter().zip(&expected).zip(&self.lines) {
-            if expected.starts_with(r#"{"bytes":"#) {
-                assert_eq!(found.to_lowercase(), *expected, "{cause}");
-            } else {
-                assert_eq!(found, expected, "{cause}");
-            }
+            assert_eq!(found, expected, "{cause}");
         }
     }
 }
