@@ -85,10 +85,10 @@ need_rt() {
 prove() {
     local log=target/$1 crate=$2
     shift 2
-    need_rt
+    need_rt || return 1
     mkdir -p target
     if ! "$@" 2>&1 | tee "$log" | tell "$crate" >&2; then
-        what_went_wrong "$log" >&2
+        what_went_wrong "$log" >&2 || true
         echo "$log has all that the prover said" >&2
         return 1
     fi
