@@ -58,8 +58,8 @@ impl Output<'_> {
     }
 }
 
-/// Writes to standard output: to the file itself, as the library's own `stdout` says nothing of
-/// one that was opened for reading.
+/// Writes to standard output: to the file itself, since Rust's `stdout` says nothing of one that
+/// was opened for reading.
 fn print(bytes: &[u8]) -> Result<(), Trouble> {
     let out = io::stdout().as_fd().try_clone_to_owned().map(File::from);
     match out.and_then(|mut out| out.write_all(bytes)) {

@@ -65,8 +65,7 @@ pub fn load(path: &OsStr) -> Result<Table, Trouble> {
     read(form, given).map_err(Trouble::Refused)
 }
 
-/// Standard input as a file: the library's own `stdin` takes one that was opened for writing to
-/// be empty.
+/// Standard input as a file: Rust's `stdin` takes one that was opened for writing to be empty.
 fn standard_input() -> io::Result<File> {
     io::stdin().as_fd().try_clone_to_owned().map(File::from)
 }
