@@ -47,24 +47,29 @@ fn main() {
     }
 }
 
-/// A table whose last row is the only one that its question asks about. That row
-/// is unknown until the last predicate is, so the walk makes every visit.
+/// How many rows of a table are not random.
+const LAST_ROWS: usize = 3;
+
+/// A table of random rows, and behind them a row that is unknown until the last
+/// predicate is, its negation, and the negation of that. The question asks if the
+/// first of these is at or below the last, so the walk makes every visit; a row
+/// against itself would be settled at the first.
 fn table(rows: usize) -> Vec<u8> {
+    let first = rows - LAST_ROWS;
     let shape = Shape {
-        rows: rows - 1..=rows - 1,
-        questions: 0..=0,
+        rows: first..=first,
         predicates: PREDICATES.into()..=PREDICATES.into(),
         leaves: 30,
-        reach: ROWS,
+        ..tables::EMPTY
     };
-    let last = (rows - 1) as u8;
+    let first = first as u8;
     let mut bytes = tables::table(&mut Random::new(SEED), &shape);
-    bytes.extend([0x11, PREDICATES - 1, 0x40, last, last]);
+    bytes.extend([0x11, PREDICATES - 1, 0x20, first, 0x20, first + 1, 0x40, first, first + 2]);
     bytes
 }
 
 fn time_calls(rows: usize, table: &[u8]) {
-    let row = rows as u32 - 2;
+    let row = (rows - LAST_ROWS) as u32 - 1;
     let (known, yes) = (KNOWN, KNOWN & YES);
     let text = texts::spelling(table);
     let (mut out, mut oracle_out) = (vec![0; text.len()], vec![0; text.len()]);

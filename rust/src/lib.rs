@@ -327,8 +327,8 @@ pub fn decide(table: &[u8], row: u32, yes: u32) -> Result<Decision, Refusal> {
 /// The set has the decision under every way of filling in the unknown facts.
 /// Learning a fact adds no decision to it, and with nothing unknown it has only
 /// what [`decide`] answers. It may also have decisions that no filling brings,
-/// since an operator's operands are chosen independently, also where both are
-/// the same row.
+/// since an operator's two rows are chosen independently, even if they can only
+/// decide alike; but where both are the same row, one choice serves both.
 ///
 /// # Errors
 ///

@@ -12,16 +12,16 @@ use std::time::{Duration, Instant, SystemTime, UNIX_EPOCH};
 use pierstride_oracle::call::{self, Answer, Call};
 use pierstride_oracle::calls::{random_call, reading_a_text};
 use pierstride_oracle::random::Random;
-use pierstride_oracle::tables::{self, Mixture};
+use pierstride_oracle::tables::{self, Mixture, Shape};
 use pierstride_oracle::{crafted, laws, limits, lines, texts};
 use pierstride_oracle::{Verdict, OF_READING, OF_READING_A_TEXT};
 
 /// How many random calls each test makes; the laws and walks come on top.
 const RANDOM_CALLS: usize = 300_000;
 const CALLS_PER_TABLE: usize = 10;
-const TABLES_FOR_LAWS: usize = 150;
+const TABLES_FOR_LAWS: [(usize, Shape); 2] = [(150, tables::SMALL), (50, tables::SMALL_WITH_SETS)];
 const TABLES_TO_READ: usize = 2000;
-const TABLES_TO_WALK: usize = 30;
+const TABLES_TO_WALK: [(usize, Shape); 2] = [(30, tables::WALKED), (30, tables::WALKED_WITH_SETS)];
 const MOST_PREDICATES_WALKED: u8 = 12;
 const RANDOM_TEXTS: usize = 20_000;
 const MANY_LINES: usize = 1_000_000;
@@ -135,10 +135,12 @@ fn run(name: &str, seed: u64) {
     println!("{name}: walks in full");
     walk_in_full(&mut comparison, &mut random);
     println!("{name}: laws, by brute force");
-    for _ in 0..TABLES_FOR_LAWS {
-        let table = tables::table(&mut random, &tables::SMALL);
-        let mut answer = |table: &[u8], call| comparison.compare(table, call);
-        laws::check(&mut answer, &mut random, &table);
+    for (count, shape) in TABLES_FOR_LAWS {
+        for _ in 0..count {
+            let table = tables::table(&mut random, &shape);
+            let mut answer = |table: &[u8], call| comparison.compare(table, call);
+            laws::check(&mut answer, &mut random, &table);
+        }
     }
     println!("{name}: laws of reading");
     for _ in 0..TABLES_TO_READ {
@@ -187,10 +189,12 @@ fn walk_in_full(comparison: &mut Comparison, random: &mut Random) {
             assert_eq!(comparison.compare(&crafted::parity(predicates), call), answer);
         }
     }
-    for _ in 0..TABLES_TO_WALK {
-        let table = tables::table(random, &tables::WALKED);
-        let call = Call::Verdict { question: 0, budget: u32::MAX };
-        comparison.compare(&table, call);
+    for (count, shape) in TABLES_TO_WALK {
+        for _ in 0..count {
+            let table = tables::table(random, &shape);
+            let call = Call::Verdict { question: 0, budget: u32::MAX };
+            comparison.compare(&table, call);
+        }
     }
 }
 

@@ -2,14 +2,16 @@
 -- induction over rows, and two kinds of values that go side by side.
 -- Assumes nothing.
 use mathlib.Core.Path.{_≡_, refl, ap, ap₂, _∙_}
+use mathlib.Core.Bool.{true}
 use mathlib.Core.List.{List, [], _∷_, _++_, map, append-assoc}
 use Prim.Native.Nat.{ℕ, zero, suc, _+_, _-_, _≤_, _<_}
 use native.Mathlib.Omega.{arith}
 use native.Mathlib.Numerals.{add-one}
 use lib.ListN.{length, getD, take, drop, set, length-append, length-map, List·getD-append, List·getD-eq-default, List·getD-map}
 use lib.Seq.{getD-at, take-at, set-at, drop-cons}
+use borrow.Author.Tests.{eqb-true}
 use Rattle.entries.specs.declared.Entry.{Entry}
-use Rattle.entries.specs.Entries.{blank}
+use Rattle.entries.specs.Entries.{blank, equalNumbers}
 use Rattle.table.specs.Reading.{padded}
 use Rattle.entries.proofs.Numbers.{by-order}
 use Rattle.table.proofs.Padding.{padded-at, padded-next}
@@ -108,14 +110,20 @@ module _ {A : Type 0} (f : Entry → A → A → A) (z : A) (code : A → ℕ) (
       ∙ set-at l (getD out₀ i 0) (drop (suc i) out₀) (code w) i coded-length
       ∙ rw (add-one i, map-more code (values f z es i) w, append-assoc l (code w ∷ []) (drop (suc i) out₀))
 
--- two kinds of values side by side: what each row hands on from the rows that it names holds of every row
+-- an entry's value, where its numbers have these
+abbrev from : {A : Type 0} → (Entry → A → A → A) → Entry → (ℕ → A) → A
+from f e x = f e (x (e .a)) (x (e .b))
+
+-- where its numbers are equal, so are the values
+pub equal-values : {A : Type 0} (x : ℕ → A) (e : Entry) → equalNumbers e ≡ true → x (e .a) ≡ x (e .b)
+equal-values x e q = ap x (eqb-true (e .a) (e .b) q)
+
+-- two kinds of values side by side: what each row hands on from the numbers that it names holds of every row
 module _ {A B : Type 0} (R : A → B → Type 0) (f : Entry → A → A → A) (g : Entry → B → B → B) (z : A) (w : B) (es : List Entry) (base : R z w)
-    (step : (i : ℕ) (x y : A) (u v : B) → R x u → R y v → R (f (getD es i blank) x y) (g (getD es i blank) u v)) where
+    (step : (i : ℕ) (x : ℕ → A) (u : ℕ → B) → ((n : ℕ) → R (x n) (u n)) → R (from f (getD es i blank) x) (from g (getD es i blank) u)) where
   pub side-by-side : (i : ℕ) → R (valueAt f z es i) (valueAt g w es i)
   unfolding valueAt
   side-by-side = by-rows (λ i. R (valueAt f z es i) (valueAt g w es i)) (λ i ih.
-      let at : (x : ℕ) → R (getD (values f z es i) x z) (getD (values g w es i) x w) =
-      λ x. by-order x i
-      (λ h. rw (before-there f z es i x h, before-there g w es i x h) (ih x h))
-      (λ h. rw (before-past f z es i x h, before-past g w es i x h) base) in
-      step i _ _ _ _ (at (getD es i blank .a)) (at (getD es i blank .b)))
+      step i (λ n. getD (values f z es i) n z) (λ n. getD (values g w es i) n w) (λ n. by-order n i
+      (λ h. rw (before-there f z es i n h, before-there g w es i n h) (ih n h))
+      (λ h. rw (before-past f z es i n h, before-past g w es i n h) base)))

@@ -1,9 +1,9 @@
 -- One entry and its bytes (01, "The table, byte by byte").
 use Prim.Native.Nat.{ℕ, _+_}
-use mathlib.Core.Bool.{cond}
+use mathlib.Core.Bool.{Bool, cond}
 use mathlib.Core.List.{List, [], _∷_, _++_}
 use lib.ListN.{length, take, drop}
-use lib.Dec.{leb}
+use lib.Dec.{leb, eqb}
 use Rattle.belnap.specs.declared.Decision.the-variants.{U}
 use Rattle.kinds.specs.declared.RowKind.the-variants.{Always}
 use Rattle.kinds.specs.declared.Kind.{Kind}
@@ -27,6 +27,10 @@ namesOf e = formOf (e .kind) .names
 -- the numbers that it has
 abbrev pub numbersIn : Entry → List ℕ
 numbersIn e = take (numbersOf e) (e .a ∷ e .b ∷ [])
+
+-- "Where both numbers in a body are equal" (02, L3): asked of an entry that has two
+abbrev pub equalNumbers : Entry → Bool
+equalNumbers e = eqb (e .a) (e .b)
 
 -- "An entry is one byte of kind, then a body whose length the kind fixes."
 unfoldable pub bytesOf : Entry → List ℕ

@@ -16,12 +16,12 @@ use Rattle.kinds.specs.declared.RowKind.the-variants.{Always, DenyIf, GrantIf, 
 use Rattle.kinds.specs.declared.Kind.the-variants.{Row}
 use Rattle.entries.specs.declared.Entry.{Entry}
 use Rattle.kinds.specs.Kinds.{formOf, asRow}
-use Rattle.entries.specs.Entries.{blank, usedBy}
+use Rattle.entries.specs.Entries.{blank, equalNumbers, usedBy}
 use Rattle.table.specs.Contents.{Covers}
 use Rattle.table.proofs.Laws.{row-uses}
 use Rattle.decide.specs.Meaning.{bit, decideBy, decides, decision}
 use Rattle.decide.specs.Requests.{Fills, Learns, AllKnown}
-use Rattle.decide.proofs.RowByRow.{side-by-side}
+use Rattle.decide.proofs.RowByRow.{equal-values, side-by-side}
 use Rattle.possible.specs.Sets.{decisions, Set, Within, single, either, imageOne, imageTwo}
 use Rattle.possible.specs.Possible.{factSet, setBy, setOf, possible}
 use Rattle.possible.proofs.Images.{single-has, either-left, either-right, one-has, two-has, one-single, two-single, one-within, two-within}
@@ -43,19 +43,20 @@ fact-has v p known request o h = go (bit known p) refl
     go true e = rw (h p e) (single-has decisions (cond (bit request p) v U))
     go false e = either-way v (bit o p) (cond (bit o p) v U) (single-has decisions (cond (bit o p) v U))
 
-row-has : (k : RowKind) (a known request o : ℕ) → Fills known request o → (x y : Decision) (s t : Set decisions) → s .has x ≡ true →
-    t .has y ≡ true → setBy k a known request s t .has (decideBy k a o x y) ≡ true
+row-has : (k : RowKind) (a : ℕ) (equal : Bool) (known request o : ℕ) → Fills known request o → (x y : Decision) (s t : Set decisions) → s .has x ≡ true →
+    t .has y ≡ true → (equal ≡ true → x ≡ y) → setBy k a equal known request s t .has (decideBy k a o x y) ≡ true
 unfolding setBy decideBy
-row-has (Always v) a known request o h x y s t p q = single-has decisions v
-row-has DenyIf a known request o h x y s t p q = fact-has D a known request o h
-row-has GrantIf a known request o h x y s t p q = fact-has G a known request o h
-row-has (One op) a known request o h x y s t p q = one-has decisions (one op) s x p
-row-has (Two op) a known request o h x y s t p q = two-has decisions (two op) s t x y p q
+row-has (Always v) a equal known request o h x y s t p q e = single-has decisions v
+row-has DenyIf a equal known request o h x y s t p q e = fact-has D a known request o h
+row-has GrantIf a equal known request o h x y s t p q e = fact-has G a known request o h
+row-has (One op) a equal known request o h x y s t p q e = one-has decisions (one op) s x p
+row-has (Two op) a equal known request o h x y s t p q e = two-has decisions (two op) equal s t x y p q e
 
 pub filling-member : (rows : List Entry) (known request o r : ℕ) → Fills known request o → possible rows known request r .has (decision rows o r) ≡ true
 filling-member rows known request o r h =
     side-by-side (λ x s. s .has x ≡ true) (decides o) (setOf known request) U (single U) rows refl
-    (λ i x y s t p q. row-has (asRow (getD rows i blank .kind)) (getD rows i blank .a) known request o h x y s t p q) r
+    (λ i x s has. let e = getD rows i blank in
+    row-has (asRow (e .kind)) (e .a) (equalNumbers e) known request o h _ _ _ _ (has (e .a)) (has (e .b)) (equal-values x e)) r
 
 -- no set is empty: it has what is decided where every missing fact is as the request says
 pub member-there : (rows : List Entry) (known request r : ℕ) → possible rows known request r .has (decision rows request r) ≡ true
@@ -72,53 +73,56 @@ fact-within v p known request more then h = go (bit known p) refl (bit more p) r
     go false e true d = either-way v (bit then p)
     go false e false d = λ x q. q
 
-row-within : (k : RowKind) (a known request more then : ℕ) → Learns known request more then → (s t u v : Set decisions) → Within s u → Within t v →
-    Within (setBy k a more then s t) (setBy k a known request u v)
+row-within : (k : RowKind) (a : ℕ) (equal : Bool) (known request more then : ℕ) → Learns known request more then → (s t u v : Set decisions) →
+    Within s u → Within t v → Within (setBy k a equal more then s t) (setBy k a equal known request u v)
 unfolding setBy
-row-within (Always w) a known request more then h s t u v p q = λ x e. e
-row-within DenyIf a known request more then h s t u v p q = fact-within D a known request more then h
-row-within GrantIf a known request more then h s t u v p q = fact-within G a known request more then h
-row-within (One op) a known request more then h s t u v p q = one-within decisions (one op) s u p
-row-within (Two op) a known request more then h s t u v p q = two-within decisions (two op) s t u v p q
+row-within (Always w) a equal known request more then h s t u v p q = λ x e. e
+row-within DenyIf a equal known request more then h s t u v p q = fact-within D a known request more then h
+row-within GrantIf a equal known request more then h s t u v p q = fact-within G a known request more then h
+row-within (One op) a equal known request more then h s t u v p q = one-within decisions (one op) s u p
+row-within (Two op) a equal known request more then h s t u v p q = two-within decisions (two op) equal s t u v p q
 
 pub learning-adds-none : (rows : List Entry) (known request more then r : ℕ) → Learns known request more then →
     Within (possible rows more then r) (possible rows known request r)
 learning-adds-none rows known request more then r h =
     side-by-side Within (setOf more then) (setOf known request) (single U) (single U) rows (λ x e. e)
-    (λ i s t u v p q. row-within (asRow (getD rows i blank .kind)) (getD rows i blank .a) known request more then h s t u v p q) r
+    (λ i s u within. let e = getD rows i blank in
+    row-within (asRow (e .kind)) (e .a) (equalNumbers e) known request more then h _ _ _ _ (within (e .a)) (within (e .b))) r
 
 -- nothing that the rows use is unknown
-row-exact : (k : RowKind) (a n known request : ℕ) → AllKnown n known → usedBy (formOf (Row k) .names) a ≤ n →
-    (x y : Decision) (s t : Set decisions) → s ≡ single x → t ≡ single y → setBy k a known request s t ≡ single (decideBy k a request x y)
+row-exact : (k : RowKind) (a : ℕ) (equal : Bool) (n known request : ℕ) → AllKnown n known → usedBy (formOf (Row k) .names) a ≤ n →
+    (x y : Decision) (s t : Set decisions) → s ≡ single x → t ≡ single y → (equal ≡ true → x ≡ y) →
+    setBy k a equal known request s t ≡ single (decideBy k a request x y)
 unfolding setBy decideBy factSet
-row-exact (Always w) a n known request h u x y s t p q = refl
-row-exact DenyIf a n known request h u x y s t p q = rw (h a (omega arith))
-row-exact GrantIf a n known request h u x y s t p q = rw (h a (omega arith))
-row-exact (One op) a n known request h u x y s t p q = ap (imageOne (one op)) p ∙ one-single decisions decisions (one op) x
-row-exact (Two op) a n known request h u x y s t p q = ap₂ (imageTwo (two op)) p q ∙ two-single decisions decisions (two op) x y
+row-exact (Always w) a equal n known request h u x y s t p q e = refl
+row-exact DenyIf a equal n known request h u x y s t p q e = rw (h a (omega arith))
+row-exact GrantIf a equal n known request h u x y s t p q e = rw (h a (omega arith))
+row-exact (One op) a equal n known request h u x y s t p q e = ap (imageOne (one op)) p ∙ one-single decisions decisions (one op) x
+row-exact (Two op) a equal n known request h u x y s t p q e = ap₂ (imageTwo (two op) equal) p q ∙ two-single decisions decisions (two op) equal x y e
 
 pub known-exact : (rows : List Entry) (n : ℕ) → Covers n rows → (known request r : ℕ) → AllKnown n known →
     possible rows known request r ≡ single (decision rows request r)
 known-exact rows n covers known request r h =
     side-by-side (λ s x. s ≡ single x) (setOf known request) (decides request) (single U) U rows refl
-    (λ i s t x y p q. let e = getD rows i blank in
-    row-exact (asRow (e .kind)) (e .a) n known request h (omega (arith, row-uses e, covers i)) x y s t p q) r
+    (λ i s x is. let e = getD rows i blank in
+    row-exact (asRow (e .kind)) (e .a) (equalNumbers e) n known request h (omega (arith, row-uses e, covers i)) _ _ _ _ (is (e .a)) (is (e .b))
+    (equal-values x e)) r
 
 -- "Predicates from n up may be given and change nothing."
-row-same : (k : RowKind) (a n known request more then : ℕ) → ((p : ℕ) → p < n → (bit known p ≡ bit more p) × (bit request p ≡ bit then p)) →
-    usedBy (formOf (Row k) .names) a ≤ n → (s t : Set decisions) → setBy k a known request s t ≡ setBy k a more then s t
+row-same : (k : RowKind) (a : ℕ) (equal : Bool) (n known request more then : ℕ) →
+    ((p : ℕ) → p < n → (bit known p ≡ bit more p) × (bit request p ≡ bit then p)) → usedBy (formOf (Row k) .names) a ≤ n →
+    (s t : Set decisions) → setBy k a equal known request s t ≡ setBy k a equal more then s t
 unfolding setBy factSet
-row-same (Always w) a n known request more then h u s t = refl
-row-same DenyIf a n known request more then h u s t = let e = h a (omega arith) in rw (e .0, e .1)
-row-same GrantIf a n known request more then h u s t = let e = h a (omega arith) in rw (e .0, e .1)
-row-same (One op) a n known request more then h u s t = refl
-row-same (Two op) a n known request more then h u s t = refl
+row-same (Always w) a equal n known request more then h u s t = refl
+row-same DenyIf a equal n known request more then h u s t = let e = h a (omega arith) in rw (e .0, e .1)
+row-same GrantIf a equal n known request more then h u s t = let e = h a (omega arith) in rw (e .0, e .1)
+row-same (One op) a equal n known request more then h u s t = refl
+row-same (Two op) a equal n known request more then h u s t = refl
 
 pub beyond-n : (rows : List Entry) (n : ℕ) → Covers n rows → (known request more then r : ℕ) →
     ((p : ℕ) → p < n → (bit known p ≡ bit more p) × (bit request p ≡ bit then p)) → possible rows known request r ≡ possible rows more then r
 beyond-n rows n covers known request more then r h =
     side-by-side (λ s t. s ≡ t) (setOf known request) (setOf more then) (single U) (single U) rows refl
-    (λ i s t u v p q. ap₂ (setBy (asRow (getD rows i blank .kind)) (getD rows i blank .a) known request) p q
-    ∙ row-same (asRow (getD rows i blank .kind)) (getD rows i blank .a) n known request more then h
-    (omega (arith, row-uses (getD rows i blank), covers i)) u v)
-    r
+    (λ i s u same. let e = getD rows i blank in
+    ap₂ (setBy (asRow (e .kind)) (e .a) (equalNumbers e) known request) (same (e .a)) (same (e .b))
+    ∙ row-same (asRow (e .kind)) (e .a) (equalNumbers e) n known request more then h (omega (arith, row-uses e, covers i)) _ _) r

@@ -9,7 +9,7 @@ use native.Mathlib.Omega.{arith}
 use lib.ListN.{getElem?}
 use borrow.Author.Tests.{eqb-true, eq-eqb}
 use Rattle.belnap.proofs.Finite.{both-parts, or-left, or-right, or-part, never}
-use Rattle.possible.specs.Sets.{Finite, Set, Within, any, single, either, choosing, imageOne, imageTwo}
+use Rattle.possible.specs.Sets.{Finite, Set, Within, any, single, either, choosing, choices, imageOne, imageTwo}
 
 -- nothing stands in an empty list
 pub none-stands : {P A : Type 0} {x : A} → none ≡ some x → P
@@ -75,9 +75,28 @@ choosing-single F x f =
     (λ v e. choosing-from s f v e (λ y a b. let q = single-is F x y a in rw q b))
     (λ v e. choosing-has s f x v (single-has F x) e)
 
-choosing-within : {F G : Finite} (s t : Set F) (f g : F .Member → Set G) → Within s t → ((x : F .Member) → Within (f x) (g x)) →
+choosing-within : {F G : Finite} (s t : Set F) (f g : F .Member → Set G) → Within s t → ((x : F .Member) → s .has x ≡ true → Within (f x) (g x)) →
     Within (choosing s f) (choosing t g)
-choosing-within s t f g a b v e = choosing-from s f v e (λ x m r. choosing-has t g x v (a x m) (b x v r))
+choosing-within s t f g a b v e = choosing-from s f v e (λ x m r. choosing-has t g x v (a x m) (b x m v r))
+
+-- which choices there are beside another: one of the set that is equal to it where one must serve both; none where the set has none; and where it has one alone
+module _ {F : Finite} where
+  choice-has : (equal : Bool) (s : Set F) (x y : F .Member) → s .has x ≡ true → (equal ≡ true → x ≡ y) → choices equal s y .has x ≡ true
+  choice-has true s x y a e = rw (e refl) (single-has F y)
+  choice-has false s x y a e = a
+
+  choice-within : (equal : Bool) (s t : Set F) (y : F .Member) → Within s t → Within (choices equal s y) (choices equal t y)
+  choice-within true s t y a = λ x e. e
+  choice-within false s t y a = a
+
+  choice-single : (equal : Bool) (x y : F .Member) → (equal ≡ true → x ≡ y) → choices equal (single {F = F} x) y ≡ single x
+  choice-single true x y e = ap (single {F = F}) (sym (e refl))
+  choice-single false x y e = refl
+
+  -- one choice that serves both is one of those that there would be for each
+  choice-fewer : (equal : Bool) (s t : Set F) (y : F .Member) → Within s t → (equal ≡ true → s .has y ≡ true) → Within (choices equal s y) t
+  choice-fewer true s t y a has = λ x e. a x (rw (← single-is F y x e) (has refl))
+  choice-fewer false s t y a has = a
 
 module _ {F : Finite} (G : Finite) where
   -- the result of every choice is in the image
@@ -85,10 +104,12 @@ module _ {F : Finite} (G : Finite) where
   unfolding imageOne
   one-has f s x a = choosing-has s (λ x. single (f x)) x (f x) a (single-has G (f x))
 
-  pub two-has : (f : F .Member → F .Member → G .Member) (s t : Set F) (x y : F .Member) → s .has x ≡ true → t .has y ≡ true →
-      imageTwo {G = G} f s t .has (f x y) ≡ true
+  pub two-has : (f : F .Member → F .Member → G .Member) (equal : Bool) (s t : Set F) (x y : F .Member) → s .has x ≡ true → t .has y ≡ true →
+      (equal ≡ true → x ≡ y) → imageTwo {G = G} f equal s t .has (f x y) ≡ true
   unfolding imageTwo
-  two-has f s t x y a b = choosing-has s (λ x. imageOne (f x) t) x (f x y) a (one-has (f x) t y b)
+  two-has f equal s t x y a b e =
+      choosing-has t (λ y. imageOne (λ x. f x y) (choices equal s y)) y (f x y) b
+      (one-has (λ x. f x y) (choices equal s y) x (choice-has equal s x y a e))
 
   -- and each member of the image is the result of a choice
   pub one-from : {P : Type 0} (f : F .Member → G .Member) (s : Set F) (v : G .Member) → imageOne {G = G} f s .has v ≡ true →
@@ -96,27 +117,43 @@ module _ {F : Finite} (G : Finite) where
   unfolding imageOne
   one-from f s v e k = choosing-from s (λ x. single (f x)) v e (λ x a r. k x a (single-is G (f x) v r))
 
-  pub two-from : {P : Type 0} (f : F .Member → F .Member → G .Member) (s t : Set F) (v : G .Member) → imageTwo {G = G} f s t .has v ≡ true →
-      ((x y : F .Member) → s .has x ≡ true → t .has y ≡ true → f x y ≡ v → P) → P
+  pub two-from : {P : Type 0} (f : F .Member → F .Member → G .Member) (equal : Bool) (s t : Set F) (v : G .Member) →
+      imageTwo {G = G} f equal s t .has v ≡ true → ((x y : F .Member) → choices equal s y .has x ≡ true → t .has y ≡ true → f x y ≡ v → P) → P
   unfolding imageTwo
-  two-from f s t v e k = choosing-from s (λ x. imageOne (f x) t) v e (λ x a r. one-from (f x) t v r (λ y b q. k x y a b q))
+  two-from f equal s t v e k =
+      choosing-from t (λ y. imageOne (λ x. f x y) (choices equal s y)) v e
+      (λ y b r. one-from (λ x. f x y) (choices equal s y) v r (λ x a q. k x y a b q))
 
   -- fewer choices have no other result
   pub one-within : (f : F .Member → G .Member) (s t : Set F) → Within s t → Within (imageOne {G = G} f s) (imageOne f t)
   unfolding imageOne
-  one-within f s t a = choosing-within s t (λ x. single (f x)) (λ x. single (f x)) a (λ x v e. e)
+  one-within f s t a = choosing-within s t (λ x. single (f x)) (λ x. single (f x)) a (λ x m v e. e)
 
-  pub two-within : (f : F .Member → F .Member → G .Member) (s t p q : Set F) → Within s p → Within t q →
-      Within (imageTwo {G = G} f s t) (imageTwo f p q)
+  two-fewer : (f : F .Member → F .Member → G .Member) (equal other : Bool) (s t p q : Set F) →
+      ((y : F .Member) → t .has y ≡ true → Within (choices equal s y) (choices other p y)) → Within t q →
+      Within (imageTwo {G = G} f equal s t) (imageTwo f other p q)
   unfolding imageTwo
-  two-within f s t p q a b = choosing-within s p (λ x. imageOne (f x) t) (λ x. imageOne (f x) q) a (λ x. one-within (f x) t q b)
+  two-fewer f equal other s t p q a b =
+      choosing-within t q (λ y. imageOne (λ x. f x y) (choices equal s y)) (λ y. imageOne (λ x. f x y) (choices other p y)) b
+      (λ y m. one-within (λ x. f x y) (choices equal s y) (choices other p y) (a y m))
+
+  pub two-within : (f : F .Member → F .Member → G .Member) (equal : Bool) (s t p q : Set F) → Within s p → Within t q →
+      Within (imageTwo {G = G} f equal s t) (imageTwo f equal p q)
+  two-within f equal s t p q a b = two-fewer f equal equal s t p q (λ y m. choice-within equal s p y a) b
+
+  -- nor has one choice that serves both: it is one of the two that 01 made
+  pub two-twice : (f : F .Member → F .Member → G .Member) (equal : Bool) (s t p q : Set F) → Within s p → Within t q → (equal ≡ true → s ≡ t) →
+      Within (imageTwo {G = G} f equal s t) (imageTwo f false p q)
+  two-twice f equal s t p q a b e = two-fewer f equal false s t p q (λ y m. choice-fewer equal s p y a (λ h. rw (e h) m)) b
 
 -- one choice has one result
 pub one-single : (F G : Finite) (f : F .Member → G .Member) (x : F .Member) → imageOne f (single {F = F} x) ≡ single {F = G} (f x)
 unfolding imageOne
 one-single F G f x = choosing-single F x (λ x. single (f x))
 
-pub two-single : (F G : Finite) (f : F .Member → F .Member → G .Member) (x y : F .Member) →
-    imageTwo f (single {F = F} x) (single y) ≡ single {F = G} (f x y)
+pub two-single : (F G : Finite) (f : F .Member → F .Member → G .Member) (equal : Bool) (x y : F .Member) → (equal ≡ true → x ≡ y) →
+    imageTwo f equal (single {F = F} x) (single y) ≡ single {F = G} (f x y)
 unfolding imageTwo
-two-single F G f x y = choosing-single F x (λ x. imageOne (f x) (single y)) ∙ one-single F G (f x) y
+two-single F G f equal x y e =
+    choosing-single F y (λ y. imageOne (λ x. f x y) (choices equal (single x) y))
+    ∙ ap (imageOne (λ x. f x y)) (choice-single equal x y e) ∙ one-single F G (λ x. f x y) x

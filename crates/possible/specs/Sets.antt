@@ -48,13 +48,18 @@ any F p = foldr (λ x later. p x || later) false (F .members)
 unfoldable pub choosing : {F G : Finite} → Set F → (F .Member → Set G) → Set G
 choosing {F} s leads = record { has = λ v. any F (λ x. s .has x && leads x .has v) }
 
--- "An operator's set is every result over every choice from its operands' sets, each operand chosen independently, also where both operands are the same
--- row. A question's set, of true and false, is formed alike": an order, "not" and "both" are operators too.
+-- Which choices there are: "each operand chosen independently" (01), from its own set; but "where both numbers in a body are equal, one choice must serve
+-- both, in rows and in questions alike" (02, L3). What may be chosen for the first of two operands, with the set s, where y is chosen for the second.
+abbrev pub choices : {F : Finite} → Bool → Set F → F .Member → Set F
+choices equal s y = cond equal (single y) s
+
+-- "An operator's set is every result over every choice from its operands' sets. A question's set, of true and false, is formed alike": an order, "not" and
+-- "both" are operators too. Two operands are given with whether their numbers are equal.
 unfoldable pub imageOne : {F G : Finite} → (F .Member → G .Member) → Set F → Set G
 imageOne f s = choosing s (λ x. single (f x))
 
-unfoldable pub imageTwo : {F G : Finite} → (F .Member → F .Member → G .Member) → Set F → Set F → Set G
-imageTwo f s t = choosing s (λ x. imageOne (f x) t)
+unfoldable pub imageTwo : {F G : Finite} → (F .Member → F .Member → G .Member) → Bool → Set F → Set F → Set G
+imageTwo f equal s t = choosing t (λ y. imageOne (λ x. f x y) (choices equal s y))
 
 -- "a mask in which u counts 1, d 2, g 4, c 8": the first member counts 1, each other twice what the one before it counts; so true counts 1, false 2
 unfoldable pub mask : (F : Finite) → Set F → ℕ

@@ -27,16 +27,16 @@ fn fact_set(v: Decision, predicate: u8, known: u32, request: u32) -> u8
     }
 }
 
-// The set of a row where the rows that it names have the sets s and t.
-fn set_by(kind: RowKind, predicate: u8, known: u32, request: u32, s: u8, t: u8) -> u8
-    ensures { λ r. ⌜ r ≡ mask decisions (setBy kind predicate known request (ofMask decisions s) (ofMask decisions t)) ⌝ }
+// The set of a row where the rows that it names have the sets s and t, and `equal` says whether their numbers are equal.
+fn set_by(kind: RowKind, predicate: u8, equal: bool, known: u32, request: u32, s: u8, t: u8) -> u8
+    ensures { λ r. ⌜ r ≡ mask decisions (setBy kind predicate equal known request (ofMask decisions s) (ofMask decisions t)) ⌝ }
 {
     match kind {
         RowKind::Always(v) => sets::only(v),
         RowKind::DenyIf => fact_set(Decision::D, predicate, known, request),
         RowKind::GrantIf => fact_set(Decision::G, predicate, known, request),
         RowKind::One(op) => sets::image_one(op, s),
-        RowKind::Two(op) => sets::image_two(op, s, t),
+        RowKind::Two(op) => sets::image_two(op, equal, s, t),
     }
 }
 
@@ -63,7 +63,8 @@ pub fn fill_sets(rows: &[u8], known: u32, request: u32, sets: &mut [u8])
         let done = &sets[..i];
         let s = mask_at(done, a);
         let t = mask_at(done, b);
-        let v = set_by(kind, a, known, request, s, t);
+        let equal = a == b;
+        let v = set_by(kind, a, equal, known, request, s, t);
         sets[i] = v;
         i += 1;
     }

@@ -3,8 +3,9 @@ use crate::tables;
 use belnap::Decision;
 use operators::OneRow;
 use operators::TwoRow;
+ghost use mathlib.Core.Bool.{cond};
 ghost use mathlib.Core.Path.{_≡_};
-ghost use Prim.Native.Nat.{_*_, _/_, _%_, _^_};
+ghost use Prim.Native.Nat.{_*_, _/_, _%_, _^_, _≤_};
 ghost use Rattle.operators.specs.Operators.{one, two};
 ghost use Rattle.possible.specs.Sets.{decisions, mask, ofMask, single, either, imageOne, imageTwo};
 
@@ -52,11 +53,18 @@ pub(crate) fn image_one(op: OneRow, s: u8) -> u8
     }
 }
 
-// Every result of a two-row operator over every choice from two sets.
-pub(crate) fn image_two(op: TwoRow, s: u8, t: u8) -> u8
-    ensures { λ r. ⌜ r ≡ mask decisions (imageTwo (two op) (ofMask decisions s) (ofMask decisions t)) ⌝ }
+// Which word of a table for two operands holds their images: that of the first operand's set, or where both numbers are equal the one behind all sets.
+pub fn word_of(equal: bool, s: u8) -> usize
+    ensures { λ r. ⌜ (r ≡ cond equal 16 (s % 16)) × (r ≤ 16) ⌝ }
 {
-    let i = (s % 16) as usize;
+    if equal { 16 } else { (s % 16) as usize }
+}
+
+// Every result of a two-row operator over every choice from two sets; where the numbers of both rows are equal, one choice serves both.
+pub(crate) fn image_two(op: TwoRow, equal: bool, s: u8, t: u8) -> u8
+    ensures { λ r. ⌜ r ≡ mask decisions (imageTwo (two op) equal (ofMask decisions s) (ofMask decisions t)) ⌝ }
+{
+    let i = word_of(equal, s);
     match op {
         TwoRow::TruthMeet => digit(tables::TRUTH_MEET[i], t),
         TwoRow::TruthJoin => digit(tables::TRUTH_JOIN[i], t),

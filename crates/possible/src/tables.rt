@@ -1,5 +1,6 @@
 // Each operator's images, as words of sixteen hexadecimal digits: digit n, from the low end, is the image of the set with mask n.
-// A two-row operator has sixteen words: word m is for the first operand's set with mask m.
+// A two-row operator has seventeen words: word m is for the first operand's set with mask m, and the last, the diagonal, is for a row and itself,
+// where one choice serves both.
 pub const NEGATION: u64 = 0xfebadc9876325410;
 
 pub const CONFLATION: u64 = 0xf7d5b391e6c4a280;
@@ -8,7 +9,7 @@ pub const CLOSED_DEFAULT: u64 = 0x6666222266642220;
 
 pub const OPEN_DEFAULT: u64 = 0x6644664466446240;
 
-pub const TRUTH_MEET: [u64; 16] = [
+pub const TRUTH_MEET: [u64; 17] = [
     0x0000000000000000,
     0x3333323233113210,
     0x2222222222222220,
@@ -25,9 +26,10 @@ pub const TRUTH_MEET: [u64; 16] = [
     0xffffbabafffd3230,
     0xfefebabafefe3230,
     0xffffbabaffff3230,
+    0xfedcba9876543210,
 ];
 
-pub const TRUTH_JOIN: [u64; 16] = [
+pub const TRUTH_JOIN: [u64; 17] = [
     0x0000000000000000,
     0x5554555455541110,
     0xfedcba9876543210,
@@ -44,9 +46,10 @@ pub const TRUTH_JOIN: [u64; 16] = [
     0xdddcdddcdd54dd50,
     0xfedcfedcfe54fe50,
     0xffdcffdcff54ff50,
+    0xfedcba9876543210,
 ];
 
-pub const KNOWLEDGE_MEET: [u64; 16] = [
+pub const KNOWLEDGE_MEET: [u64; 17] = [
     0x0000000000000000,
     0x1111111111111110,
     0x3333323233113210,
@@ -63,9 +66,10 @@ pub const KNOWLEDGE_MEET: [u64; 16] = [
     0xffddffdd77553310,
     0xfffffffe77553310,
     0xffffffff77553310,
+    0xfedcba9876543210,
 ];
 
-pub const KNOWLEDGE_JOIN: [u64; 16] = [
+pub const KNOWLEDGE_JOIN: [u64; 17] = [
     0x0000000000000000,
     0xfedcba9876543210,
     0xaaa8aaa8aaa82220,
@@ -82,9 +86,10 @@ pub const KNOWLEDGE_JOIN: [u64; 16] = [
     0xfedcfad8fedcfad0,
     0xeeeceae8eeeceae0,
     0xfefcfaf8fefcfaf0,
+    0xfedcba9876543210,
 ];
 
-pub const IMPLICATION: [u64; 16] = [
+pub const IMPLICATION: [u64; 17] = [
     0x0000000000000000,
     0x4444444444444440,
     0x4444444444444440,
@@ -101,9 +106,10 @@ pub const IMPLICATION: [u64; 16] = [
     0xfedcfedc76547650,
     0xfedcfedc76547650,
     0xfedcfedc76547650,
+    0xccccccc844444440, // digit 5: u or g implies itself by g alone, 4
 ];
 
-pub const GUARD: [u64; 16] = [
+pub const GUARD: [u64; 17] = [
     0x0000000000000000,
     0x1111111111111110,
     0x1111111111111110,
@@ -120,9 +126,10 @@ pub const GUARD: [u64; 16] = [
     0xffddbb9977553310,
     0xffddbb9977553310,
     0xffddbb9977553310,
+    0xdddc999855541110,
 ];
 
-pub const OVERRIDE_U: [u64; 16] = [
+pub const OVERRIDE_U: [u64; 17] = [
     0x0000000000000000,
     0xfedcba9876543210,
     0x2222222222222220,
@@ -139,9 +146,10 @@ pub const OVERRIDE_U: [u64; 16] = [
     0xfedcfedcfedcfed0,
     0xeeeeeeeeeeeeeee0,
     0xfefefefefefefef0,
+    0xfedcba9876543210,
 ];
 
-pub const OVERRIDE_D: [u64; 16] = [
+pub const OVERRIDE_D: [u64; 17] = [
     0x0000000000000000,
     0x1111111111111110,
     0xfedcba9876543210,
@@ -158,9 +166,10 @@ pub const OVERRIDE_D: [u64; 16] = [
     0xddddddddddddddd0,
     0xfedcfedcfedcfed0,
     0xffddffddffddffd0,
+    0xfedcba9876543210,
 ];
 
-pub const OVERRIDE_G: [u64; 16] = [
+pub const OVERRIDE_G: [u64; 17] = [
     0x0000000000000000,
     0x1111111111111110,
     0x2222222222222220,
@@ -177,9 +186,10 @@ pub const OVERRIDE_G: [u64; 16] = [
     0xffddbb99ffddbb90,
     0xfefebabafefebab0,
     0xffffbbbbffffbbb0,
+    0xfedcba9876543210,
 ];
 
-pub const OVERRIDE_C: [u64; 16] = [
+pub const OVERRIDE_C: [u64; 17] = [
     0x0000000000000000,
     0x1111111111111110,
     0x2222222222222220,
@@ -196,4 +206,5 @@ pub const OVERRIDE_C: [u64; 16] = [
     0xffddffdd77557750,
     0xfefefefe76767670,
     0xffffffff77777770,
+    0xfedcba9876543210,
 ];

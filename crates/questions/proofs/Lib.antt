@@ -1,5 +1,6 @@
 -- Laws of questions; below this file, a folder for each function that has a proof of its own.
 pub mod Tops
 pub mod TruthSets
+pub mod Twice
 pub mod Renaming
 pub mod Unique

@@ -1,7 +1,7 @@
 -- How many rows a question looks at, and that it looks at no others.
 -- Assumes nothing.
 use mathlib.Core.Path.{_≡_, ap, ap₂, _∙_}
-use mathlib.Core.Bool.{true}
+use mathlib.Core.Bool.{Bool, true}
 use mathlib.Core.List.{List}
 use Prim.Native.Nat.{ℕ, _≤_, _<_}
 use native.Mathlib.Omega.{arith}
@@ -11,7 +11,7 @@ use Rattle.kinds.specs.declared.QuestionKind.{QuestionKind}
 use Rattle.kinds.specs.declared.QuestionKind.the-variants.{Compare, Not, Both}
 use Rattle.entries.specs.declared.Entry.{Entry}
 use Rattle.kinds.specs.Kinds.{asQuestion}
-use Rattle.entries.specs.Entries.{numberLimit, blank}
+use Rattle.entries.specs.Entries.{numberLimit, blank, equalNumbers}
 use Rattle.table.specs.Reading.{padded}
 use Rattle.runs.specs.Flat.{entriesIn, roomFor}
 use Rattle.entries.proofs.Numbers.{by-order}
@@ -34,7 +34,8 @@ top-bound : (qs : List Entry) → ((i : ℕ) → (getD qs i blank .a < numberLim
     top qs j ≤ numberLimit
 top-bound qs h =
     side-by-side (λ x y. x ≤ numberLimit) topOf topOf 0 0 qs (omega arith)
-    (λ i x y u v p q. top-small (asQuestion (getD qs i blank .kind)) (getD qs i blank .a) (getD qs i blank .b) x y (h i .0) (h i .1) p q)
+    (λ i x y small. let e = getD qs i blank in
+    top-small (asQuestion (e .kind)) (e .a) (e .b) _ _ (h i .0) (h i .1) (small (e .a)) (small (e .b)))
 
 -- the same of a run of bytes
 pub top-in : (run : List ℕ) (j : ℕ) → j < roomFor run numberLimit → topIn run j ≡ top (entriesIn run) j
@@ -52,12 +53,12 @@ top-there run j tops q =
     ap (λ (l : List ℕ). getD l j 0) q ∙ padded-at 0 numberLimit (values topOf 0 (entriesIn run) (roomFor run numberLimit)) j
 
 -- and that it looks at no others
-same-seen : (k : QuestionKind) (a b rows m n : ℕ) (f g : ℕ → Set decisions) (x y u v : Set truths) → ((r : ℕ) → r < rows → f r ≡ g r) →
-    topBy k a b m n ≤ rows → (m ≤ rows → x ≡ u) → (n ≤ rows → y ≡ v) → truthSetBy k (f a) (f b) x y ≡ truthSetBy k (g a) (g b) u v
+same-seen : (k : QuestionKind) (equal : Bool) (a b rows m n : ℕ) (f g : ℕ → Set decisions) (x y u v : Set truths) → ((r : ℕ) → r < rows → f r ≡ g r) →
+    topBy k a b m n ≤ rows → (m ≤ rows → x ≡ u) → (n ≤ rows → y ≡ v) → truthSetBy k equal (f a) (f b) x y ≡ truthSetBy k equal (g a) (g b) u v
 unfolding truthSetBy
-same-seen (Compare o) a b rows m n f g x y u v h t p q = ap₂ (imageTwo (atOrBelow o)) (h a (omega arith)) (h b (omega arith))
-same-seen Not a b rows m n f g x y u v h t p q = rw (p t)
-same-seen Both a b rows m n f g x y u v h t p q = rw (p (omega arith), q (omega arith))
+same-seen (Compare o) equal a b rows m n f g x y u v h t p q = ap₂ (imageTwo (atOrBelow o) equal) (h a (omega arith)) (h b (omega arith))
+same-seen Not equal a b rows m n f g x y u v h t p q = rw (p t)
+same-seen Both equal a b rows m n f g x y u v h t p q = rw (p (omega arith), q (omega arith))
 
 pub only-top : (qs : List Entry) (rows : ℕ) (f g : ℕ → Set decisions) → ((r : ℕ) → r < rows → f r ≡ g r) → (j : ℕ) → top qs j ≤ rows →
     valueAt (asksSet f) (single true) qs j ≡ valueAt (asksSet g) (single true) qs j
@@ -69,4 +70,4 @@ only-top qs rows f g h = by-rows (λ j. top qs j ≤ rows → valueAt (asksSet f
     λ x l. by-order x j
     (λ k. rw (before-there (asksSet f) z qs j x k, before-there (asksSet g) z qs j x k) (ih x k (rw (before-there topOf 0 qs j x k) at l)))
     (λ k. rw (before-past (asksSet f) z qs j x k, before-past (asksSet g) z qs j x k)) in
-    same-seen (asQuestion (e .kind)) (e .a) (e .b) rows _ _ f g _ _ _ _ h t (at (e .a)) (at (e .b)))
+    same-seen (asQuestion (e .kind)) (equalNumbers e) (e .a) (e .b) rows _ _ f g _ _ _ _ h t (at (e .a)) (at (e .b)))

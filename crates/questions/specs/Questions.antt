@@ -7,6 +7,7 @@ use Rattle.belnap.specs.Orders.{atOrBelow}
 use Rattle.kinds.specs.declared.QuestionKind.{QuestionKind}
 use Rattle.kinds.specs.declared.QuestionKind.the-variants.{Compare, Not, Both}
 use Rattle.entries.specs.declared.Entry.{Entry}
+use Rattle.entries.specs.Entries.{equalNumbers}
 use Rattle.kinds.specs.Kinds.{asQuestion}
 use Rattle.decide.specs.Rows.{valueAt}
 use Rattle.decide.specs.Meaning.{decision}
@@ -26,14 +27,14 @@ asks rows request e x y = truthBy (asQuestion (e .kind)) (decision rows request 
 abbrev pub truth : List Entry → List Entry → ℕ → ℕ → Bool
 truth rows questions request j = valueAt (asks rows request) true questions j
 
--- "A question's set, of true and false, is formed alike."
-unfoldable pub truthSetBy : QuestionKind → Set decisions → Set decisions → Set truths → Set truths → Set truths
-truthSetBy (Compare o) s t x y = imageTwo (atOrBelow o) s t
-truthSetBy Not s t x y = imageOne not x
-truthSetBy Both s t x y = imageTwo _&&_ x y
+-- "A question's set, of true and false, is formed alike": with one choice where both numbers are equal
+unfoldable pub truthSetBy : QuestionKind → Bool → Set decisions → Set decisions → Set truths → Set truths → Set truths
+truthSetBy (Compare o) equal s t x y = imageTwo (atOrBelow o) equal s t
+truthSetBy Not equal s t x y = imageOne not x
+truthSetBy Both equal s t x y = imageTwo _&&_ equal x y
 
 abbrev pub asksSet : (ℕ → Set decisions) → Entry → Set truths → Set truths → Set truths
-asksSet sets e x y = truthSetBy (asQuestion (e .kind)) (sets (e .a)) (sets (e .b)) x y
+asksSet sets e x y = truthSetBy (asQuestion (e .kind)) (equalNumbers e) (sets (e .a)) (sets (e .b)) x y
 
 -- the set of question j, with these predicates known and these of them yes
 abbrev pub truthSet : List Entry → List Entry → ℕ → ℕ → ℕ → Set truths

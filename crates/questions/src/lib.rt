@@ -14,11 +14,11 @@ ghost use Rattle.possible.specs.Filled.{filled};
 ghost use Rattle.questions.specs.Questions.{truthSetBy, asksSet};
 ghost use Rattle.questions.specs.Inner.{topBy, topIn, setAt};
 
-// Every outcome of a comparison over every choice from two sets of decisions.
-fn compare_set(order: Order, s: u8, t: u8) -> u8
-    ensures { λ r. ⌜ r ≡ mask truths (imageTwo (atOrBelow order) (ofMask decisions s) (ofMask decisions t)) ⌝ }
+// Every outcome of a comparison over every choice from two sets of decisions; where the numbers of both rows are equal, one choice serves both.
+fn compare_set(order: Order, equal: bool, s: u8, t: u8) -> u8
+    ensures { λ r. ⌜ r ≡ mask truths (imageTwo (atOrBelow order) equal (ofMask decisions s) (ofMask decisions t)) ⌝ }
 {
-    let i = (s % 16) as usize;
+    let i = possible::sets::word_of(equal, s);
     match order {
         Order::Truth => possible::sets::digit(tables::TRUTH_ORDER[i], t),
         Order::Knowledge => possible::sets::digit(tables::KNOWLEDGE_ORDER[i], t),
@@ -32,22 +32,26 @@ fn not_set(x: u8) -> u8
     possible::sets::digit(tables::NOT, x % 4)
 }
 
-// "Both" over two sets of truths.
-fn both_set(x: u8, y: u8) -> u8
-    ensures { λ r. ⌜ r ≡ mask truths (imageTwo _&&_ (ofMask truths x) (ofMask truths y)) ⌝ }
+// "Both" over two sets of truths; where the numbers of both questions are equal, one choice serves both.
+fn both_set(equal: bool, x: u8, y: u8) -> u8
+    ensures { λ r. ⌜ r ≡ mask truths (imageTwo _&&_ equal (ofMask truths x) (ofMask truths y)) ⌝ }
 {
-    let i = (x % 4) as usize;
-    possible::sets::digit(tables::BOTH[i], y % 4)
+    if equal {
+        possible::sets::digit(tables::BOTH[4], y % 4)
+    } else {
+        let i = (x % 4) as usize;
+        possible::sets::digit(tables::BOTH[i], y % 4)
+    }
 }
 
-// The set of a question where the rows that it names have the sets s and t, and the questions the sets x and y.
-fn truth_set_by(kind: QuestionKind, s: u8, t: u8, x: u8, y: u8) -> u8
-    ensures { λ r. ⌜ r ≡ mask truths (truthSetBy kind (ofMask decisions s) (ofMask decisions t) (ofMask truths x) (ofMask truths y)) ⌝ }
+// The set of a question where the rows that it names have the sets s and t, and the questions the sets x and y; `equal` says whether its numbers are equal.
+fn truth_set_by(kind: QuestionKind, equal: bool, s: u8, t: u8, x: u8, y: u8) -> u8
+    ensures { λ r. ⌜ r ≡ mask truths (truthSetBy kind equal (ofMask decisions s) (ofMask decisions t) (ofMask truths x) (ofMask truths y)) ⌝ }
 {
     match kind {
-        QuestionKind::Compare(order) => compare_set(order, s, t),
+        QuestionKind::Compare(order) => compare_set(order, equal, s, t),
         QuestionKind::Not => not_set(x),
-        QuestionKind::Both => both_set(x, y),
+        QuestionKind::Both => both_set(equal, x, y),
     }
 }
 
@@ -68,7 +72,8 @@ pub fn fill_truths(questions: &[u8], sets: &[u8], masks: &mut [u8])
         let t = possible::mask_at(sets, b);
         let x = possible::mask_at(done, a);
         let y = possible::mask_at(done, b);
-        let v = truth_set_by(kind, s, t, x, y);
+        let equal = a == b;
+        let v = truth_set_by(kind, equal, s, t, x, y);
         masks[i] = v;
         i += 1;
     }

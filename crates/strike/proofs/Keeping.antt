@@ -25,7 +25,7 @@ use Rattle.walk.specs.Walk.{walk, replyOf}
 use Rattle.questions.proofs.Renaming.{Asked, Follows, truth-kept as truth-renamed, truths-kept as truths-renamed}
 use Rattle.walk.proofs.Renaming.{walk-kept as walk-renamed}
 use Rattle.strike.specs.Strike.{lower, lowered, struck, names, namedBy}
-use Rattle.strike.proofs.Renumbering.{old-lower, lower-still}
+use Rattle.strike.proofs.Renumbering.{old-lower, lower-apart, lower-still}
 use Rattle.strike.proofs.Closing.{first-other, second-other}
 use Rattle.strike.proofs.Laws.{struck-at, struck-question-at, struck-predicates, unnamed-row, unnamed-question}
 
@@ -52,10 +52,13 @@ module _ (c : Contents) (r : ℕ) (w : Whole c) (unnamed : namedBy r (entries c)
   named i x k l o = record { kept = o; lower = l; still = lower-still r x i o k l }
 
   rows-renamed : Renames (lower r) (Left r) (c .rows) (struck r c .rows)
-  rows-renamed i k = record {
-    there = struck-at r c (lower r i) ∙ ap (λ (j : ℕ). lowered r (getD (c .rows) j blank)) (old-lower r i k);
-    first = λ t. row-names 0 i t (λ s n. named i (row i .a) k (first-below (row i) s t) (first-other r (row i) n t));
-    second = λ t. row-names 1 i t (λ s n. named i (row i .b) k (second-below (row i) s t) (second-other r (row i) n t));
+  rows-renamed = record {
+    stands = λ i k. record {
+      there = struck-at r c (lower r i) ∙ ap (λ (j : ℕ). lowered r (getD (c .rows) j blank)) (old-lower r i k);
+      first = λ t. row-names 0 i t (λ s n. named i (row i .a) k (first-below (row i) s t) (first-other r (row i) n t));
+      second = λ t. row-names 1 i t (λ s n. named i (row i .b) k (second-below (row i) s t) (second-other r (row i) n t));
+    };
+    apart = lower-apart r;
   }
 
   question-asked : (j : ℕ) → Asked (question j)

@@ -33,6 +33,10 @@ old-lower r x h =
     (λ l. rw (lower-above r x l, old-above r (x - 1) (omega arith)) (omega arith))
     (λ l. rw (lower-below r x l) (old-below r x (omega (arith, h))))
 
+-- two rows that are left have one new number only if they are one row
+pub lower-apart : (r x y : ℕ) → (x ≡ r → ⊥) → (y ≡ r → ⊥) → lower r x ≡ lower r y → x ≡ y
+lower-apart r x y h k e = sym (old-lower r x h) ∙ ap (old r) e ∙ old-lower r y k
+
 -- a lower row is lower under its new number
 pub lower-lt : (r x j : ℕ) → (x ≡ r → ⊥) → x < old r j → lower r x < j
 lower-lt r x j h l =

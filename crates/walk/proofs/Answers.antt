@@ -8,13 +8,12 @@ use mathlib.Core.Option.{Option, none, some}
 use Prim.Native.Nat.{ℕ, zero, suc, _+_, _-_, _^_, _≤_, _<_}
 use native.Mathlib.Omega.{arith}
 use native.Mathlib.Nat.{zero-add, suc-add}
-use lib.Dec.{eqb}
-use borrow.Author.Tests.{not-true, not-false, eqb-true, eqb-false}
+use borrow.Author.Tests.{not-true, not-false}
 use Rattle.belnap.specs.Decisions.{alike}
 use Rattle.belnap.proofs.Finite.{never}
 use Rattle.entries.specs.declared.Entry.{Entry}
 use Rattle.table.specs.Contents.{Covers}
-use Rattle.entries.proofs.Numbers.{by-order}
+use Rattle.entries.proofs.Numbers.{by-order, by-equal}
 use Rattle.decide.specs.Meaning.{bit}
 use Rattle.decide.specs.Requests.{Fills}
 use Rattle.walk.specs.declared.Look.{Look}
@@ -27,14 +26,6 @@ use Rattle.walk.proofs.Bits.{bit-above, bit-known, bit-set, bit-else, b
 use Rattle.walk.proofs.Replies.{found-behind}
 use Rattle.walk.proofs.Looks.{settled, single-settled}
 use Rattle.questions.proofs.TruthSets.{filling-truth, known-truth}
-
--- what a number is, or is not
-by-equal : {P : Type 0} (i p : ℕ) → (i ≡ p → P) → ((i ≡ p → ⊥) → P) → P
-by-equal {P} i p f g = go (eqb i p) refl
-  where
-    go : (b : Bool) → eqb i p ≡ b → P
-    go true e = f (eqb-true i p e)
-    go false e = g (eqb-false i p e)
 
 -- one predicate more is known, to be no or to be yes: what fills in the facts then, and before
 module _ (known facts p : ℕ) (unknown : bit known p ≡ false) (unsaid : bit facts p ≡ false) where
@@ -50,10 +41,10 @@ module _ (known facts p : ℕ) (unknown : bit known p ≡ false) (unsaid : bit f
   other : (i : ℕ) → bit known i ≡ true → i ≡ p → ⊥
   other i h q = never (sym (rw q at h) ∙ unknown)
 
-  less-no : (o : ℕ) → Fills (known + 2 ^ p) facts o → Fills known facts o
+  pub less-no : (o : ℕ) → Fills (known + 2 ^ p) facts o → Fills known facts o
   less-no o a i h = a i (bit-else known p i unknown (other i h) ∙ h)
 
-  less-yes : (o : ℕ) → Fills (known + 2 ^ p) (facts + 2 ^ p) o → Fills known facts o
+  pub less-yes : (o : ℕ) → Fills (known + 2 ^ p) (facts + 2 ^ p) o → Fills known facts o
   less-yes o a i h = a i (bit-else known p i unknown (other i h) ∙ h) ∙ bit-else facts p i unsaid (other i h)
 
   -- what it says there
@@ -138,7 +129,7 @@ unfoldable pub tried : List ℕ → ℕ → ℕ
 tried [] known = known
 tried (p ∷ ps) known = tried ps (known + 2 ^ p)
 
-unfoldable Fresh : List ℕ → ℕ → Type 0
+unfoldable pub Fresh : List ℕ → ℕ → Type 0
 Fresh [] known = Unit
 Fresh (p ∷ ps) known = (bit known p ≡ false) × Fresh ps (known + 2 ^ p)
 
@@ -152,7 +143,7 @@ tried-more [] known i f h = h
 tried-more (p ∷ ps) known i f h = unknown-still known p i (f .0) (tried-more ps (known + 2 ^ p) i (f .1) h)
 
 -- the facts say yes only of what is known
-abbrev OnlyKnown : ℕ → ℕ → Type 0
+abbrev pub OnlyKnown : ℕ → ℕ → Type 0
 OnlyKnown known facts = (i : ℕ) → bit known i ≡ false → bit facts i ≡ false
 
 only-no : (known facts p : ℕ) → bit known p ≡ false → OnlyKnown known facts → OnlyKnown (known + 2 ^ p) facts
@@ -172,12 +163,34 @@ abbrev firstOf : Option ℕ → Option ℕ → Option ℕ
 firstOf none g = g
 firstOf (some m) g = some m
 
-found-else : (first second : List Visit) → found (orElse first second) ≡ firstOf (found first) (found second)
+pub found-else : (first second : List Visit) → found (orElse first second) ≡ firstOf (found first) (found second)
 found-else first second = go (found first) refl
   where
     go : (f : Option ℕ) → found first ≡ f → found (first ++ ifNone f second) ≡ firstOf f (found second)
     go none e = found-behind first second e
     go (some m) e = ap found (append-nil first) ∙ e
+
+-- what a walk is begun with, and goes on with
+pub record Begun (all : ℕ) (ps : List ℕ) (known facts : ℕ) : Type 0 where
+  pub fresh : Fresh ps known
+  pub only : OnlyKnown known facts
+  pub ends : tried ps known ≡ all
+
+module _ {all p known facts : ℕ} {ps : List ℕ} (b : Begun all (p ∷ ps) known facts) where
+  pub unknown : bit known p ≡ false
+  unfolding Fresh
+  unknown = b .fresh .0
+
+  pub unsaid : bit facts p ≡ false
+  unsaid = b .only p unknown
+
+  pub begun-no : Begun all ps (known + 2 ^ p) facts
+  unfolding Fresh tried
+  begun-no = record { fresh = b .fresh .1; only = only-no known facts p unknown (b .only); ends = b .ends }
+
+  pub begun-yes : Begun all ps (known + 2 ^ p) (facts + 2 ^ p)
+  unfolding Fresh tried
+  begun-yes = record { fresh = b .fresh .1; only = only-yes known facts p unknown (b .only); ends = b .ends }
 
 -- A walk over any predicates, for anything to be hit: where a visit ends with nothing, no filling of its facts is a hit; where it found, its facts with every
 -- other predicate no are one; and it does not go on once all are tried.
@@ -196,14 +209,8 @@ module _ (see : ℕ → ℕ → Look) (hit : ℕ → Bool) (all : ℕ)
   Says ps known facts none = (o : ℕ) → Fills known facts o → hit o ≡ false
   Says ps known facts (some m) = First ps known facts m
 
-  -- what a walk is begun with
-  record Begun (ps : List ℕ) (known facts : ℕ) : Type 0 where
-    fresh : Fresh ps known
-    only : OnlyKnown known facts
-    ends : tried ps known ≡ all
-
   -- a visit that found
-  hit-here : (ps : List ℕ) (known facts : ℕ) → Begun ps known facts → see known facts ≡ Found → First ps known facts facts
+  hit-here : (ps : List ℕ) (known facts : ℕ) → Begun all ps known facts → see known facts ≡ Found → First ps known facts facts
   hit-here ps known facts b e = record {
     hits = there known facts (b .only) e;
     fills = λ i h. refl;
@@ -243,8 +250,8 @@ module _ (see : ℕ → ℕ → Look) (hit : ℕ → Bool) (all : ℕ)
             y .first o (fills-yes known facts p u unsaid o a e) (same-first p ps o m (e ∙ sym (says-yes known facts p u unsaid m (y .fills))) l)
         at o a l false e = x o (fills-no known facts p u unsaid o a e)
 
-  says : (ps : List ℕ) (known facts : ℕ) → Begun ps known facts → Says ps known facts (found (visitsFrom see ps known facts))
-  unfolding visitsFrom found tried Fresh
+  says : (ps : List ℕ) (known facts : ℕ) → Begun all ps known facts → Says ps known facts (found (visitsFrom see ps known facts))
+  unfolding visitsFrom found tried
   says [] known facts b = go (see known facts) refl
     where
       go : (l : Look) → see known facts ≡ l → Says [] known facts (foundAt l facts none)
@@ -254,12 +261,10 @@ module _ (see : ℕ → ℕ → Look) (hit : ℕ → Bool) (all : ℕ)
   says (p ∷ ps) known facts b =
       let no = visitsFrom see ps (known + 2 ^ p) facts in
       let yes = visitsFrom see ps (known + 2 ^ p) (facts + 2 ^ p) in
-      let u = b .fresh .0 in
       go (see known facts) refl
       (subst (Says (p ∷ ps) known facts) (sym (found-else no yes))
-      (says-both p ps known facts u (b .only p u) (found no) (found yes)
-      (says ps (known + 2 ^ p) facts (record { fresh = b .fresh .1; only = only-no known facts p u (b .only); ends = b .ends }))
-      (says ps (known + 2 ^ p) (facts + 2 ^ p) (record { fresh = b .fresh .1; only = only-yes known facts p u (b .only); ends = b .ends }))))
+      (says-both p ps known facts (unknown b) (unsaid b) (found no) (found yes)
+      (says ps (known + 2 ^ p) facts (begun-no b)) (says ps (known + 2 ^ p) (facts + 2 ^ p) (begun-yes b))))
     where
       both : List Visit
       both = orElse (visitsFrom see ps (known + 2 ^ p) facts) (visitsFrom see ps (known + 2 ^ p) (facts + 2 ^ p))
@@ -270,6 +275,11 @@ module _ (see : ℕ → ℕ → Look) (hit : ℕ → Bool) (all : ℕ)
       go Found e w = hit-here (p ∷ ps) known facts b e
       go Open e w = w
 
+  -- where a walk finds nothing, no filling of the facts is a hit
+  pub nothing-hit : (ps : List ℕ) (known facts : ℕ) → Begun all ps known facts → found (visitsFrom see ps known facts) ≡ none →
+      (o : ℕ) → Fills known facts o → hit o ≡ false
+  nothing-hit ps known facts b e = rw e at (says ps known facts b)
+
 -- predicates in order, of which those below k are known
 fresh-from : (left k : ℕ) → Fresh (predicatesFrom k left) (2 ^ k - 1)
 unfolding Fresh predicatesFrom
@@ -277,12 +287,20 @@ fresh-from zero k = tt
 fresh-from (suc left) k =
     (bit-above (2 ^ k - 1) k k (omega (arith, power-positive k)) (omega arith), rw (known-more k) (fresh-from left (k + 1)))
 
-pub tried-from : (left k : ℕ) → tried (predicatesFrom k left) (2 ^ k - 1) ≡ 2 ^ (k + left) - 1
+tried-from : (left k : ℕ) → tried (predicatesFrom k left) (2 ^ k - 1) ≡ 2 ^ (k + left) - 1
 unfolding tried predicatesFrom
 tried-from zero k = let q : k + 0 ≡ k = omega arith in rw q
 tried-from (suc left) k =
     let q : k + 1 + left ≡ k + suc left = omega arith in
     ap (tried (predicatesFrom (k + 1) left)) (known-more k) ∙ tried-from left (k + 1) ∙ ap (λ (k : ℕ). 2 ^ k - 1) q
+
+-- a walk over n predicates is begun with nothing known
+pub begun-all : (n : ℕ) → Begun (2 ^ n - 1) (predicatesFrom 0 n) 0 0
+begun-all n = record {
+  fresh = fresh-from n 0;
+  only = λ i h. h;
+  ends = let q : 0 + n ≡ n = omega arith in rw q at (tried-from n 0);
+}
 
 -- the questions of a table
 module _ (rows questions : List Entry) (n : ℕ) (covers : Covers n rows) (j : ℕ) where
@@ -300,21 +318,17 @@ module _ (rows questions : List Entry) (n : ℕ) (covers : Covers n rows) (j : �
   pub settled-at-n : (facts : ℕ) → see (2 ^ n - 1) facts ≡ Open → ⊥
   settled-at-n facts e = single-settled (trueAt facts) (sym (ap look (known-truth rows questions n covers (2 ^ n - 1) facts j (bit-known n))) ∙ e)
 
-  abbrev breaks : ℕ → Bool
+  abbrev pub breaks : ℕ → Bool
   breaks o = not (trueAt o)
 
-  nowhere : (known facts o : ℕ) → see known facts ≡ Nothing → Fills known facts o → breaks o ≡ false
+  pub nowhere : (known facts o : ℕ) → see known facts ≡ Nothing → Fills known facts o → breaks o ≡ false
   nowhere known facts o e a = ap not (right true known facts o e a)
 
-  there : (known facts : ℕ) → OnlyKnown known facts → see known facts ≡ Found → breaks facts ≡ true
+  pub there : (known facts : ℕ) → OnlyKnown known facts → see known facts ≡ Found → breaks facts ≡ true
   there known facts only e = ap not (right false known facts facts e (λ i h. refl))
 
   said : Says see breaks (2 ^ n - 1) nowhere there settled-at-n (predicatesFrom 0 n) 0 0 (found (walk rows questions n j))
-  said = says see breaks (2 ^ n - 1) nowhere there settled-at-n (predicatesFrom 0 n) 0 0 (record {
-    fresh = fresh-from n 0;
-    only = λ i h. h;
-    ends = let q : 0 + n ≡ n = omega arith in rw q at (tried-from n 0);
-  })
+  said = says see breaks (2 ^ n - 1) nowhere there settled-at-n (predicatesFrom 0 n) 0 0 (begun-all n)
 
   nothing-known : (o : ℕ) → Fills 0 0 o
   nothing-known o i h = never (sym h ∙ bit-above 0 0 i (omega arith) (omega arith))

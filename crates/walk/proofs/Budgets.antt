@@ -22,7 +22,7 @@ more-never-unsays b more vs l h =
     (λ g. reply-within more vs (omega arith) ∙ sym (reply-within b vs g))
 
 -- a walk over so many predicates makes fewer visits than two to one more
-below-bound : (l : Look) (vs : List Visit) → length (below l vs) ≤ length vs
+pub below-bound : (l : Look) (vs : List Visit) → length (below l vs) ≤ length vs
 below-bound Nothing vs = omega arith
 below-bound Found vs = omega arith
 below-bound Open vs = omega arith

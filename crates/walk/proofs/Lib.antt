@@ -6,5 +6,6 @@ pub mod Sights
 pub mod Replies
 pub mod Answers
 pub mod Budgets
+pub mod Twice
 pub mod Renaming
 pub mod Unique

@@ -5,7 +5,8 @@ use mathlib.Core.Path.{_≡_, refl, sym, ap, _∙_}
 use mathlib.Core.Bool.{Bool, true, false, cond}
 use native.Mathlib.Omega.{arith}
 use Rattle.decide.specs.Meaning.{bit}
-use Rattle.possible.specs.Sets.{truths, Set, single, ofMask}
+use Rattle.belnap.proofs.Finite.{never}
+use Rattle.possible.specs.Sets.{truths, Set, Within, single, ofMask}
 use Rattle.possible.proofs.Masks.{low}
 use Rattle.walk.specs.declared.Look.the-variants.{Nothing, Found, Open}
 use Rattle.walk.specs.Walk.{look}
@@ -25,7 +26,20 @@ settled t false true e q = absurd (at (t .has false) (rw q at e))
     at false e = let z : _≡_ {A = ℕ} 0 1 = cc in omega arith
 settled t false false e q = refl
 
--- and one truth alone is settled
+-- and one within it that has a member is settled alike
+pub settled-within : (t u : Set truths) (b r : Bool) → Within t u → t .has r ≡ true → look u ≡ cond b Nothing Found → look t ≡ cond b Nothing Found
+settled-within t u b r within has e = at b (t .has true) (t .has false) refl refl (λ x q. settled u b x e (within x q)) (rw (settled u b r e (within r has)) at has)
+  where
+    at : (b p q : Bool) → t .has true ≡ p → t .has false ≡ q → ((x : Bool) → t .has x ≡ true → x ≡ b) → t .has b ≡ true →
+        cond q (cond p Open Found) (cond p Nothing Open) ≡ cond b Nothing Found
+    at true true false i j only h = refl
+    at true true true i j only h = never (sym (only false j))
+    at true false q i j only h = never (sym h ∙ i)
+    at false false true i j only h = refl
+    at false true true i j only h = never (only true i)
+    at false p false i j only h = never (sym h ∙ j)
+
+-- one truth alone is settled
 pub single-settled : (b : Bool) → look (single b) ≡ Open → ⊥
 single-settled true e = let z : _≡_ {A = ℕ} 0 1 = cc in omega arith
 single-settled false e = let z : _≡_ {A = ℕ} 0 1 = cc in omega arith

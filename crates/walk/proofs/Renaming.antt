@@ -12,7 +12,7 @@ use Rattle.questions.proofs.Renaming.{Follows, truths-kept}
 use Rattle.walk.specs.declared.Look.{Look}
 use Rattle.walk.specs.declared.Look.the-variants.{Nothing, Found, Open}
 use Rattle.walk.specs.Walk.{Visit, look, visit, orElse, below, visitsFrom, predicatesFrom, walkBy, sees, walk}
-use Rattle.walk.proofs.Answers.{tried, tried-from, settled-at-n}
+use Rattle.walk.proofs.Answers.{tried, begun-all, settled-at-n}
 
 -- a walk in which every visit is settled once a list of predicates is tried makes no other visits where more are left
 below-shut : (l : Look) (vs : List Visit) → (l ≡ Open → ⊥) → [] ≡ below l vs
@@ -47,9 +47,8 @@ pub more-predicates : (rows questions : List Entry) (n : ℕ) → Covers n rows 
 more-predicates rows questions n covers m l j =
     let see = sees rows questions j in
     let sum : n + (m - n) ≡ m = omega arith in
-    let all : tried (predicatesFrom 0 n) 0 ≡ 2 ^ n - 1 = let q : 0 + n ≡ n = omega arith in rw q at (tried-from n 0) in
     walk-shut see (predicatesFrom 0 n) (predicatesFrom (0 + n) (m - n)) 0 0
-    (λ facts e. settled-at-n rows questions n covers j facts (ap (λ (known : ℕ). see known facts) (sym all) ∙ e))
+    (λ facts e. settled-at-n rows questions n covers j facts (ap (λ (known : ℕ). see known facts) (sym (begun-all n .ends)) ∙ e))
     ∙ ap (λ (ps : List ℕ). visitsFrom see ps 0 0) (predicates-more 0 n (m - n) ∙ ap (predicatesFrom 0) sum)
 
 -- the questions of a table whose rows got new numbers

@@ -1,4 +1,6 @@
--- What the promises of this crate mean: the walk that answers a question, 01's order of requests, and what inner functions speak of.
+-- What the promises of this crate mean: the walk that answers a question, 01's order of requests, and what inner functions speak of; and the walk by 01's own
+-- choice.
 pub mod Walk
 pub mod Order
 pub mod Inner
+pub mod Twice

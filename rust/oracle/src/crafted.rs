@@ -4,10 +4,11 @@
 use crate::kinds::*;
 use crate::{QUESTIONS, ROWS};
 
-/// A table whose last row grants if an odd number of `count` predicates is yes
-/// and otherwise denies. As long as a predicate is unknown that row may grant or
-/// deny, so its two questions, if the row is at or below itself in the truth
-/// and in the knowledge order, take all 2^(n+1) - 1 visits, and hold.
+/// A table with a row that grants if an odd number of `count` predicates is yes
+/// and otherwise denies, and last the negation of its negation. As long as a
+/// predicate is unknown each of these two may grant or deny, so the two questions,
+/// if the one is at or below the other in the truth and in the knowledge order,
+/// take all 2^(n+1) - 1 visits, and hold.
 pub fn parity(count: u8) -> Vec<u8> {
     let mut bytes = vec![0x01];
     let mut odd = 0;
@@ -19,16 +20,20 @@ pub fn parity(count: u8) -> Vec<u8> {
         bytes.extend([0x31, fact + 3, fact + 4]);
         odd = fact + 5;
     }
-    bytes.extend([0x40, odd, odd, 0x41, odd, odd]);
+    let twin = odd + 2;
+    bytes.extend([0x20, odd, 0x20, odd + 1, 0x40, odd, twin, 0x41, odd, twin]);
     bytes
 }
 
-/// Rows that have, as long as predicate 0 is unknown, every set of decisions:
+/// So many rows `rows_of_every_set` makes.
+pub const ROWS_OF_EVERY_SET: usize = 25;
+
+/// Rows that have, as long as the predicate is unknown, every set of decisions:
 /// their bytes, and the number of a row for each mask from 1 to 15.
-pub fn rows_of_every_set() -> (Vec<u8>, Vec<u8>) {
+pub fn rows_of_every_set(predicate: u8) -> (Vec<u8>, Vec<u8>) {
     // Rows 0 to 3 are the constants, in the order of their codes. Row 4 grants
-    // if predicate 0; rows 5 to 7 are u, or else d, g and c, as it is u or g.
-    let mut bytes = vec![0, 1, 2, 3, 0x11, 0, 0x35, 4, 1, 0x35, 4, 2, 0x35, 4, 3];
+    // if the predicate; rows 5 to 7 are u, or else d, g and c, as it is u or g.
+    let mut bytes = vec![0, 1, 2, 3, 0x11, predicate, 0x35, 4, 1, 0x35, 4, 2, 0x35, 4, 3];
     let mut rows = 8;
     let row_of = |mask: u8| {
         let mut members = (0..4).filter(|code| mask >> code & 1 == 1);
@@ -45,13 +50,23 @@ pub fn rows_of_every_set() -> (Vec<u8>, Vec<u8>) {
     (bytes, numbers)
 }
 
-/// Tables that put every operator and comparison on every set, or pair of sets.
+/// Those rows and a twin of each: its set under another number.
+pub fn rows_of_every_set_twice() -> (Vec<u8>, Vec<[u8; 2]>) {
+    let (mut bytes, numbers) = rows_of_every_set(0);
+    // Row 2 always grants, so what it guards stays as it is.
+    bytes.extend(numbers.iter().flat_map(|&row| [0x35, 2, row]));
+    let twins = ROWS_OF_EVERY_SET as u8..;
+    (bytes, numbers.into_iter().zip(twins).map(|(row, twin)| [row, twin]).collect())
+}
+
+/// Tables that put every operator, every comparison, "not" and "both" on every set,
+/// or pair of sets; equal sets are put there under one number and under two.
 pub fn operators_on_every_set() -> Vec<Vec<u8>> {
-    let (rows, numbers) = rows_of_every_set();
-    let singles: Vec<_> = numbers.iter().map(|&x| vec![x]).collect();
-    let pair_with = |x| numbers.iter().map(move |&y| vec![x, y]);
-    let pairs: Vec<_> = numbers.iter().flat_map(|&x| pair_with(x)).collect();
-    let mut tables = Vec::new();
+    let (rows, numbers) = rows_of_every_set_twice();
+    let singles: Vec<_> = numbers.iter().map(|&[x, _]| vec![x]).collect();
+    let pairs_with = |x| numbers.iter().map(move |&[_, y]| vec![x, y]).chain([vec![x, x]]);
+    let pairs: Vec<_> = numbers.iter().flat_map(|&[x, _]| pairs_with(x)).collect();
+    let mut tables = vec![questions_on_every_set()];
     let mut put = |kinds: &[u8], bodies: &[Vec<u8>]| {
         for &kind in kinds {
             let entries = bodies.iter().map(|body| [&[kind], &body[..]].concat());
@@ -59,11 +74,25 @@ pub fn operators_on_every_set() -> Vec<Vec<u8>> {
         }
     };
     put(&ON_ONE_ROW, &singles);
-    put(&ON_TWO_ROWS, &pairs);
+    for pairs in pairs.chunks(ROWS / 2) {
+        put(&ON_TWO_ROWS, pairs);
+    }
     for pairs in pairs.chunks(QUESTIONS) {
         put(&COMPARISONS, pairs);
     }
     tables
+}
+
+/// A table that puts "not" and "both" on every set of truths, or pair of sets, as long
+/// as predicate 0 is unknown.
+fn questions_on_every_set() -> Vec<u8> {
+    // Rows 0 and 1 are u and g, row 2 is either. Question 0 is true, 1 is false and 2
+    // is either, for u is at or below g and g is not at or below u; 3 to 5 are alike.
+    let mut bytes = vec![0, 2, 0x11, 0];
+    bytes.extend([0x40, 0, 1, 0x40, 1, 0, 0x40, 1, 2].repeat(2));
+    bytes.extend((0..6).flat_map(|a| [NOT, a]));
+    bytes.extend((0..6).flat_map(|a| (0..6).flat_map(move |b| [BOTH, a, b])));
+    bytes
 }
 
 /// The table with the longest text: every entry has the longest word that it can

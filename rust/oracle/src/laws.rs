@@ -2,9 +2,11 @@
 //!
 //! The laws are the demands of the specification, stated over answers alone:
 //! every request is tried, so they do not depend on how a walk is made or a set
-//! is formed. Those of reading are tried on given and on random bytes, and go by
-//! the list of kinds in `kinds`, not by the implementation's own.
+//! is formed; but those of equal numbers do. Those of reading are tried on given
+//! and on random bytes, and go by the list of kinds in `kinds`, not by the
+//! implementation's own.
 
+mod equal_numbers;
 mod texts;
 
 pub use self::texts::{check_round_trip, check_text};
@@ -27,6 +29,7 @@ pub fn check(answer: &mut dyn FnMut(&[u8], Call) -> Answer, random: &mut Random,
     check_questions(&mut desk, &tried, random);
     check_sets(&mut desk, &tried, random);
     check_strikes(&mut desk, &tried, random);
+    equal_numbers::check(&mut desk, &tried, random);
 }
 
 /// Checks every law of reading on the answers that `answer` gives on any bytes.

@@ -1,5 +1,5 @@
 //! A second implementation of Pierstride's specification, which is document 01
-//! with requests L1 and L2 of document 02 and the words that `docs/WORDS.md` lists.
+//! with requests L1 to L3 of document 02 and the words that `docs/WORDS.md` lists.
 //!
 //! It is written from these alone and as plainly as possible, so that it can be
 //! checked by reading; the library is then compared with it. It uses the library's
@@ -10,7 +10,7 @@
 //! tests share, so that every implementation meets the same tests:
 //!
 //! - [`call`]: calls and answers as plain values;
-//! - [`notebook`], [`spellings`]: the cases that document 01 and request L2 list;
+//! - [`notebook`], [`spellings`]: the cases of document 01 and of the requests;
 //! - [`random`], [`tables`], [`texts`], [`calls`]: random numbers, tables, texts and
 //!   calls;
 //! - [`kinds`]: the listed kinds, what numbers their bodies have, and their words;
@@ -43,9 +43,9 @@ pub mod texts;
 
 pub use crate::decide::{decide, truths};
 pub use crate::decision::Decision;
-pub use crate::possible::{possible, DecisionSet};
+pub use crate::possible::{possible, possible_by, Choice, DecisionSet};
 pub use crate::refusal::{Refusal, OF_READING, OF_READING_A_TEXT};
 pub use crate::strike::{entry, strike};
 pub use crate::table::{read, Table, PREDICATES, QUESTIONS, ROWS, TABLE_BYTES};
 pub use crate::text::{from_text, to_text, TEXT_BYTES};
-pub use crate::walk::{verdict, Verdict};
+pub use crate::walk::{verdict, verdict_by, Verdict};

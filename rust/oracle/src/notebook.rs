@@ -1,6 +1,6 @@
 //! The cases of document 01, "From the old desk's notebook", with the places that
-//! document 02, L1, gives to refusals 3 and 4, and a few beside them of the same
-//! kind.
+//! document 02, L1, gives to refusals 3 and 4, the examples of L3, and a few beside
+//! them of the same kind.
 
 use crate::call::{Answer, Call, Case};
 use crate::{Refusal, Verdict};
@@ -17,6 +17,12 @@ pub fn hex(line: &str) -> Vec<u8> {
         .map(|byte| u8::from_str_radix(byte, 16).expect("a byte in hex"))
         .collect()
 }
+
+/// Row 1: row 0, which grants if predicate 0, implies itself.
+const IMPLIES_ITSELF: &str = "11 00 34 00 00";
+
+/// Row 2: row 0 implies row 1, which says the same but has another number.
+const IMPLIES_ITS_LIKE: &str = "11 00 11 00 34 00 01";
 
 /// Every case of the notebook.
 pub fn cases() -> Vec<Case> {
@@ -58,10 +64,18 @@ fn operators() -> Vec<Case> {
 }
 
 fn sets() -> Vec<Case> {
-    let expected =
-        [("11 00 01 34 00 01", 0b00, 0b00, 6), (TABLE_A, 0b01, 0b01, 12), (TABLE_A, 0b11, 0b11, 8)];
-    let case = |(table, known, yes, mask)| {
-        let call = Call::Possible { row: 2, known, yes };
+    let expected = [
+        ("11 00 01 34 00 01", 2, 0b00, 0b00, 6),
+        (TABLE_A, 2, 0b01, 0b01, 12),
+        (TABLE_A, 2, 0b11, 0b11, 8),
+        // L3: one choice serves two equal numbers, and only those.
+        (IMPLIES_ITSELF, 1, 0b00, 0b00, 4),
+        (IMPLIES_ITSELF, 0, 0b00, 0b00, 5),
+        (IMPLIES_ITS_LIKE, 2, 0b00, 0b00, 5),
+        (IMPLIES_ITS_LIKE, 2, 0b01, 0b01, 4),
+    ];
+    let case = |(table, row, known, yes, mask)| {
+        let call = Call::Possible { row, known, yes };
         (hex(table), call, Answer::Set(mask))
     };
     Vec::from(expected.map(case))
@@ -77,6 +91,14 @@ fn verdicts() -> Vec<Case> {
         (TABLE_A, 2, 5, fails(3, 5)),
         (STRIKING, 0, 1_000_000, fails(0, 1)),
         (STRIKING, 0, 0, Verdict::Unfinished { budget: 0 }),
+        // L3: that a row is at or below itself is settled at the root.
+        ("11 00 40 00 00", 0, 1_000_000, Verdict::Holds { visits: 1 }),
+        ("11 17 41 00 00", 0, 1, Verdict::Holds { visits: 1 }),
+        ("11 17 41 00 00 42 00", 1, 1, fails(0, 1)),
+        // That it is at or below one that says the same is not.
+        ("11 00 11 00 40 00 01", 0, 1_000_000, Verdict::Holds { visits: 3 }),
+        // A question and itself have that question's walk.
+        ("11 00 02 40 01 00 43 00 00", 1, 1_000_000, fails(0, 2)),
     ];
     let case = |(table, question, budget, verdict)| {
         let call = Call::Verdict { question, budget };

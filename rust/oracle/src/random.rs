@@ -42,6 +42,11 @@ impl Random {
         self.below(count) == 0
     }
 
+    /// True in so many of a hundred cases; nothing is drawn for none of them.
+    pub fn percent(&mut self, share: usize) -> bool {
+        share > 0 && self.below(100) < share
+    }
+
     pub fn pick<T: Copy>(&mut self, from: &[T]) -> T {
         from[self.below(from.len())]
     }

@@ -25,7 +25,7 @@ pub fn spelled_by(text: &[u8]) -> Option<Vec<u8>> {
 
 /// The entries that `bytes` begin with, as far as their kinds are listed and their
 /// bodies whole.
-fn entries(bytes: &[u8]) -> impl Iterator<Item = &[u8]> {
+pub fn entries(bytes: &[u8]) -> impl Iterator<Item = &[u8]> {
     let mut rest = bytes;
     std::iter::from_fn(move || {
         let length = 1 + Group::of(*rest.first()?)?.length;

@@ -1,6 +1,6 @@
 //! The walk that answers a question.
 
-use crate::possible::{decision_sets, truth_sets};
+use crate::possible::{decision_sets, truth_sets, Choice};
 use crate::refusal::Refusal;
 use crate::table::{read, Table};
 
@@ -17,9 +17,19 @@ pub enum Verdict {
 
 /// Walks for question `question` with at most `budget` visits.
 pub fn verdict(bytes: &[u8], question: u32, budget: u32) -> Result<Verdict, Refusal> {
+    verdict_by(Choice::OneForEqual, bytes, question, budget)
+}
+
+/// The same, by either way to choose.
+pub fn verdict_by(
+    choice: Choice,
+    bytes: &[u8],
+    question: u32,
+    budget: u32,
+) -> Result<Verdict, Refusal> {
     let table = read(bytes)?;
     let question = table.find_question(question)?;
-    let mut walk = Walk { table: &table, question, budget, visits: 0 };
+    let mut walk = Walk { choice, table: &table, question, budget, visits: 0 };
     let end = walk.visit(0, 0);
     let visits = walk.visits;
     Ok(match end {
@@ -30,6 +40,7 @@ pub fn verdict(bytes: &[u8], question: u32, budget: u32) -> Result<Verdict, Refu
 }
 
 struct Walk<'a> {
+    choice: Choice,
     table: &'a Table,
     question: usize,
     budget: u32,
@@ -50,8 +61,9 @@ impl Walk<'_> {
         }
         self.visits += 1;
         let known = (1 << k) - 1;
-        let rows = decision_sets(&self.table.rows, known, yes);
-        let questions = truth_sets(&self.table.questions[..=self.question], &rows);
+        let rows = decision_sets(self.choice, &self.table.rows, known, yes);
+        let asked = &self.table.questions[..=self.question];
+        let questions = truth_sets(self.choice, asked, &rows);
         match questions[self.question].settled() {
             Some(true) => Ok(()),
             Some(false) => Err(Stop::Broken { request: yes }),

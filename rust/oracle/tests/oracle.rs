@@ -15,9 +15,11 @@ fn answers_the_notebook() {
 #[test]
 fn keeps_the_laws() {
     let mut random = Random::new(1);
-    for _ in 0..200 {
-        let table = tables::table(&mut random, &tables::SMALL);
-        laws::check(&mut answer, &mut random, &table);
+    for shape in [&tables::SMALL, &tables::SMALL_WITH_SETS] {
+        for _ in 0..200 {
+            let table = tables::table(&mut random, shape);
+            laws::check(&mut answer, &mut random, &table);
+        }
     }
 }
 
@@ -105,10 +107,12 @@ fn reads_the_longest_table() {
 
 #[test]
 fn makes_rows_of_every_set() {
-    let (table, numbers) = crafted::rows_of_every_set();
-    for (mask, row) in (1..16).zip(numbers) {
-        let call = Call::Possible { row: row.into(), known: 0, yes: 0 };
-        assert_eq!(answer(&table, call), Answer::Set(mask));
+    let (table, numbers) = crafted::rows_of_every_set_twice();
+    for (mask, twins) in (1..16).zip(numbers) {
+        for row in twins {
+            let call = Call::Possible { row: row.into(), known: 0, yes: 0 };
+            assert_eq!(answer(&table, call), Answer::Set(mask));
+        }
     }
     for table in crafted::operators_on_every_set() {
         read(&table).expect("a table of operators");

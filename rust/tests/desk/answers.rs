@@ -255,11 +255,23 @@ fn the_largest_table_is_a_table() {
 
 #[test]
 fn all_questions_that_hold_give_status_0() {
-    let text = b"deny-if 0\ntruth-at-or-below 0 0\nknowledge-at-or-below 0 0\nboth 0 1\n";
+    let text = b"\
+deny-if 0
+negation 0
+negation 1
+truth-at-or-below 0 2
+knowledge-at-or-below 0 2
+both 0 1
+truth-at-or-below 0 0
+knowledge-at-or-below 0 0
+";
+    // Row 2 decides as row 0 does, but only a row and itself are settled at the root.
     let out = "\
 question 0: holds after 3 visits
 question 1: holds after 3 visits
 question 2: holds after 3 visits
+question 3: holds after 1 visit
+question 4: holds after 1 visit
 ";
     assert_eq!(answer_on(text, &["ask", "-"]), Outcome::answer(0, out));
     let unfinished = answer_on(text, &["ask", "-", "--budget", "2"]);

@@ -203,7 +203,7 @@ fn a_picture_has_the_rows_that_a_row_reaches() {
 
 #[test]
 fn a_box_has_each_decision() {
-    let (table, numbers) = crafted::rows_of_every_set();
+    let (table, numbers) = crafted::rows_of_every_set(0);
     let rows = numbers.iter().map(|&row| u32::from(row));
     let asked: Vec<Asked> = rows
         .flat_map(|row| [0, 1].map(|yes| Asked { table: table.clone(), row, yes: Some(yes) }))

@@ -17,8 +17,9 @@ const VISITS: u32 = 33_554_431;
 const SOON: Duration = Duration::from_secs(8);
 
 /// A table whose last question holds, but is unsettled as long as predicate 23 is unknown:
-/// each row negates the one before it, and an even one is compared with row 0. Question 0 is
-/// settled at once. The more rows there are, the longer a visit takes.
+/// each row negates the one before it, and an even one above 0 is compared with row 0.
+/// Question 0, a row against itself, is settled at once. The more rows there are, the longer
+/// a visit takes.
 fn long_walk(last: u32) -> String {
     let negations: String = (0..last).map(|row| format!("negation {row}\n")).collect();
     let always = last + 1;
@@ -105,7 +106,7 @@ fn a_terminal_sees_how_far_a_walk_is() {
 
 #[test]
 fn nothing_else_sees_it() {
-    let scratch = long_table(0);
+    let scratch = long_table(2);
     let outcome = elsewhere(&scratch, r#""$DESK" ask long.txt 1"#);
     assert_eq!(outcome, Outcome::answer(0, HOLDS));
     // Standard output is a terminal, and standard error is none.

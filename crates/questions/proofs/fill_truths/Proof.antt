@@ -10,7 +10,7 @@ use Rattle.runs.proofs.Runs.{in-room}
 use lib.ListN.{length, drop, length-set}
 use lib.Seq.{length-take-le}
 use mathlib.Core.List.{_++_, map}
-use mathlib.Core.Bool.{true}
+use mathlib.Core.Bool.{Bool, true}
 use native.Mathlib.Omega.{arith}
 use Prim.Native.Nat.{ℕ, _≤_, _<_, _+_, _*_, _-_}
 use mathlib.Core.Path.{_≡_, refl, sym, _∙_}
@@ -74,9 +74,10 @@ slice-write-masks : tie.Need-slice-write-masks Inv-loop μ-loop
 slice-write-masks c = inside (kind-of (read-of (c .before)) .before) .1
 
 -- a question's set goes by the masks of the rows that it names
-same-sets : (k : QuestionKind) (s t m n : ℕ) (x y : Set truths) → s ≡ m → t ≡ n →
-    mask truths (truthSetBy k (ofMask decisions s) (ofMask decisions t) x y) ≡ mask truths (truthSetBy k (ofMask decisions m) (ofMask decisions n) x y)
-same-sets k s t m n x y p q = rw (p, q)
+same-sets : (k : QuestionKind) (equal : Bool) (s t m n : ℕ) (x y : Set truths) → s ≡ m → t ≡ n →
+    mask truths (truthSetBy k equal (ofMask decisions s) (ofMask decisions t) x y) ≡
+    mask truths (truthSetBy k equal (ofMask decisions m) (ofMask decisions n) x y)
+same-sets k equal s t m n x y p q = rw (p, q)
 
 loop-again : tie.Need-loop-again Inv-loop μ-loop
 unfolding mask
@@ -96,7 +97,7 @@ loop-again c =
       turn (x .mask-at3 .result) (y .mask-at4 .result) (c .truth-set-by .result) (inside kind .0) (omega (arith, inside kind .1, at .loop .inv .1))
           (x .mask-at3 .ensures) (y .mask-at4 .ensures)
           (rw (known .as-question .ensures, kind .kind-in .ensures) at (c .truth-set-by .ensures)
-          ∙ same-sets _ _ _ _ _ _ _ (s .mask-at .ensures) (t .mask-at2 .ensures)),
+          ∙ same-sets _ _ _ _ _ _ _ _ (s .mask-at .ensures) (t .mask-at2 .ensures)),
     )
 
 same-length : tie.Need-same-length Inv-loop μ-loop
