@@ -81,6 +81,10 @@ module _ (s : List ℕ) (c : Contents) (is : reading s ≡ answered c) where
         let n = asked-well remainingOf (λ a. a .refusal) (λ why. refl) _ _ (rw possible-says at e) in
         (well (length (c .rows)) r (badMasks known request) n, ap remainingOf possible-says ∙ rw n)
 
+    pub remains : r < length (c .rows) → badMasks known request ≡ false →
+        possibleAnswer s r known request ≡ remainingOf (answered (possible (c .rows) known request r))
+    remains h g = ap remainingOf possible-says ∙ rw (g, asked-right (length (c .rows)) r h)
+
   pub replies : (q budget : ℕ) → q < length (c .questions) →
       verdictAnswer s q budget ≡ repliedOf (replyOf budget (walkOf c q))
   unfolding saysVerdict

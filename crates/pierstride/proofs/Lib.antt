@@ -7,3 +7,4 @@ pub mod FirstDemand
 pub mod Answered
 pub mod SecondDemand
 pub mod ThirdDemand
+pub mod Itself

@@ -109,7 +109,7 @@ module _ (s : List ℕ) (r known request : ℕ) (left : possibleAnswer s r known
     set-is : set ≡ mask decisions (possible (c .rows) known request r)
     set-is = ap (λ (a : Remaining). a .set) (remained s c is r known request left .1)
 
-    set-has : (v : Decision) → bit set (code v) ≡ possible (c .rows) known request r .has v
+    pub set-has : (v : Decision) → bit set (code v) ≡ possible (c .rows) known request r .has v
     set-has v = ap (λ (n : ℕ). bit n (code v)) set-is ∙ member-bit decisions (possible (c .rows) known request r) v
 
   -- "the decision under every way of filling them in is among those shown"

@@ -7,9 +7,10 @@ use mathlib.Core.Logic.{_⊎_}
 use lib.ListN.{length, take, drop}
 use Rattle.entries.specs.Refusals.{notThere, stillNamed, badMask, outputTooShort, isAmong}
 use Rattle.entries.specs.Said.{Said, answered, refusing, refusal}
-use Rattle.table.specs.Contents.{Contents}
+use Rattle.table.specs.Contents.{Contents, predicates}
 use Rattle.table.specs.Places.{Speaks}
 use Rattle.questions.specs.Questions.{truth}
+use Rattle.walk.specs.Twice.{walkTwice}
 use Rattle.pierstride.specs.declared.Written.{Written}
 use Rattle.pierstride.specs.Services.{walkOf}
 
@@ -46,6 +47,10 @@ Breaks c q o = truth (c .rows) (c .questions) o q ≡ false
 -- how many visits "01's walk needs"
 abbrev pub needed : Contents → ℕ → ℕ
 needed c q = length (walkOf c q)
+
+-- and how many it needed by 01's own choice, twice from one row
+abbrev pub neededTwice : Contents → ℕ → ℕ
+neededTwice c q = length (walkTwice (c .rows) (c .questions) (predicates c) q)
 
 -- a call that wrote these bytes: it answers how many, they stand at the front of the output, and what was behind stays
 pub record Wrote (bytes out : List ℕ) (answer : Written) (left : List ℕ) : Type 0 where

@@ -1,6 +1,6 @@
 -- An image holds the result of every choice, and nothing else, over any finite types. Each law is that of `choosing`, at one operand and at two.
 -- Assumes nothing.
-use mathlib.Core.Path.{_≡_, refl, sym, ap, _∙_}
+use mathlib.Core.Path.{_≡_, refl, sym, ap, fun-ext, _∙_}
 use mathlib.Core.Bool.{Bool, true, false, _&&_, _||_}
 use mathlib.Core.List.{List, [], _∷_, foldr}
 use mathlib.Core.Option.{none, some}
@@ -157,3 +157,22 @@ unfolding imageTwo
 two-single F G f equal x y e =
     choosing-single F y (λ y. imageOne (λ x. f x y) (choices equal (single x) y))
     ∙ ap (imageOne (λ x. f x y)) (choice-single equal x y e) ∙ one-single F G (λ x. f x y) x
+
+-- one choice that serves both is one choice
+pub two-itself : {F : Finite} (G : Finite) (f : F .Member → F .Member → G .Member) (s t : Set F) → imageTwo {G = G} f true s t ≡ imageOne (λ x. f x x) t
+unfolding imageOne imageTwo
+two-itself {F} G f s t = ap (choosing t) (fun-ext (λ y. one-single F G (λ x. f x y) y))
+
+-- one result for every choice, and each choice its own result
+pub one-result : {F : Finite} (G : Finite) (f : F .Member → G .Member) (v : G .Member) → ((x : F .Member) → f x ≡ v) → (s : Set F) (x : F .Member) →
+    s .has x ≡ true → imageOne f s ≡ single {F = G} v
+one-result G f v all s x a =
+    each-within (imageOne f s) (single v)
+    (λ w e. one-from G f s w e (λ y b q. rw (sym q ∙ all y) (single-has G v)))
+    (λ w e. let q = single-is G v w e in rw (sym q ∙ sym (all x)) (one-has G f s x a))
+
+pub own-result : (F : Finite) (f : F .Member → F .Member) → ((x : F .Member) → f x ≡ x) → (s : Set F) → imageOne {G = F} f s ≡ s
+own-result F f own s =
+    each-within (imageOne f s) s
+    (λ v e. one-from F f s v e (λ x a q. rw (sym q ∙ own x) a))
+    (λ v e. rw (← own v) (one-has F f s v e))

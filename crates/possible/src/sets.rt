@@ -54,7 +54,7 @@ pub(crate) fn image_one(op: OneRow, s: u8) -> u8
 }
 
 // Which word of a table for two operands holds their images: that of the first operand's set, or where both numbers are equal the one behind all sets.
-pub fn word_of(equal: bool, s: u8) -> usize
+pub fn word_for(equal: bool, s: u8) -> usize
     ensures { λ r. ⌜ (r ≡ cond equal 16 (s % 16)) × (r ≤ 16) ⌝ }
 {
     if equal { 16 } else { (s % 16) as usize }
@@ -64,7 +64,7 @@ pub fn word_of(equal: bool, s: u8) -> usize
 pub(crate) fn image_two(op: TwoRow, equal: bool, s: u8, t: u8) -> u8
     ensures { λ r. ⌜ r ≡ mask decisions (imageTwo (two op) equal (ofMask decisions s) (ofMask decisions t)) ⌝ }
 {
-    let i = word_of(equal, s);
+    let i = word_for(equal, s);
     match op {
         TwoRow::TruthMeet => digit(tables::TRUTH_MEET[i], t),
         TwoRow::TruthJoin => digit(tables::TRUTH_JOIN[i], t),

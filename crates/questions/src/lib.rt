@@ -18,7 +18,7 @@ ghost use Rattle.questions.specs.Inner.{topBy, topIn, setAt};
 fn compare_set(order: Order, equal: bool, s: u8, t: u8) -> u8
     ensures { λ r. ⌜ r ≡ mask truths (imageTwo (atOrBelow order) equal (ofMask decisions s) (ofMask decisions t)) ⌝ }
 {
-    let i = possible::sets::word_of(equal, s);
+    let i = possible::sets::word_for(equal, s);
     match order {
         Order::Truth => possible::sets::digit(tables::TRUTH_ORDER[i], t),
         Order::Knowledge => possible::sets::digit(tables::KNOWLEDGE_ORDER[i], t),

@@ -15,14 +15,14 @@ unfolding mask ofMask bit choosing imageOne imageTwo
 returns c =
     let i = c .before .before .before in
     let a = i .before .args in
-    rw (c .before .enum-told .given .1) (c .digit .ensures ∙ in-words decisions truths (omega arith) (atOrBelow Truth) (a .equal) (a .s) (a .t) (i .word-of .ensures .0))
+    rw (c .before .enum-told .given .1) (c .digit .ensures ∙ in-words decisions truths (omega arith) (atOrBelow Truth) (a .equal) (a .s) (a .t) (i .word-for .ensures .0))
 
 returns-2 : tie.Need-returns-2
 unfolding mask ofMask bit choosing imageOne imageTwo
 returns-2 c =
     let i = c .before .before .before in
     let a = i .before .args in
-    rw (c .before .enum-told2 .given .1) (c .digit2 .ensures ∙ in-words decisions truths (omega arith) (atOrBelow Knowledge) (a .equal) (a .s) (a .t) (i .word-of .ensures .0))
+    rw (c .before .enum-told2 .given .1) (c .digit2 .ensures ∙ in-words decisions truths (omega arith) (atOrBelow Knowledge) (a .equal) (a .s) (a .t) (i .word-for .ensures .0))
 
 pub compare-set-spec : {M : Type 1} → statement M
 compare-set-spec =
