@@ -171,9 +171,10 @@ pier_decided pier_decide(const uint8_t *table, size_t table_len, uint32_t row, u
  * Answers which decisions of a row remain possible if only the predicates of
  * `known` are known, those of `yes` being yes and the others no. The set has the
  * decision under every way of filling in the unknown facts. It may also have
- * decisions that no filling brings, since an operator's operands are chosen
- * independently, also where both are the same row. Learning a fact adds none,
- * and with nothing unknown the set has only what pier_decide answers.
+ * decisions that no filling brings, since an operator's two rows are chosen
+ * independently, even if they can only decide alike; but where both are the same
+ * row, one choice serves both. Learning a fact adds none, and with nothing
+ * unknown the set has only what pier_decide answers.
  *
  * Refusals: those of reading; PIER_NOT_THERE; PIER_BAD_MASK.
  */

@@ -138,7 +138,9 @@ static void add(table *table, unsigned kind, unsigned first, unsigned second)
 /*
  * The longest table, 959 bytes: row 0 grants if predicate 23, and every other
  * entry stays open until row 0 is known, so the walk goes 25 visits deep. Each
- * entry names the one before it; the questions begin at row `asked`.
+ * entry names the one before it; the questions begin at row `asked`, which is
+ * compared with the one before it, since a row against itself would be settled
+ * at the root.
  */
 static table longest(unsigned asked)
 {
@@ -148,7 +150,7 @@ static table longest(unsigned asked)
     for (i = 1; i <= LAST_ROW; i++) {
         add(&table, kinds[i % sizeof kinds], i - 1, i - 1);
     }
-    add(&table, 0x40, asked, asked);
+    add(&table, 0x40, asked, asked - 1);
     for (i = 1; i <= LAST_QUESTION; i++) {
         add(&table, 0x43, i - 1, i - 1);
     }

@@ -89,7 +89,8 @@ module _ {new : ℕ → ℕ} {Kept : ℕ → Type 0} {rows fresh : List Entry} w
 
   pub value-kept : Renames new Kept rows fresh → {A : Type 0} (f : Entry → A → A → A) (z : A) → Comes f →
       (i : ℕ) → Kept i → valueAt f z fresh (new i) ≡ valueAt f z rows i
-  value-kept r f z comes = by-rows (λ i. Kept i → valueAt f z fresh (new i) ≡ valueAt f z rows i) (λ i ih k. value-stands f z comes (r .apart) i (r .stands i k) ih)
+  value-kept r f z comes =
+      by-rows (λ i. Kept i → valueAt f z fresh (new i) ≡ valueAt f z rows i) (λ i ih k. value-stands f z comes (r .apart) i (r .stands i k) ih)
 
   pub decision-kept : Renames new Kept rows fresh → (m i : ℕ) → Kept i → decision fresh m (new i) ≡ decision rows m i
   decision-kept r m = value-kept r (decides m) U (decisions-come m)

@@ -1,6 +1,6 @@
 // Runs every case of the old desk's notebook (01) that is not marked P, through the services, and prints each with what came back;
-// then tables with a number that is not below its limit (02, L1); then takes rows out of tables, each as a part of the table, or
-// with the companion's refusal.
+// then tables with a number that is not below its limit (02, L1), and those of a row against itself (02, L3); then takes rows out of
+// tables, each as a part of the table, or with the companion's refusal.
 use libc::STDOUT_FILENO;
 
 // Table A; question 2 asks if row 2 is free of conflict.
@@ -72,11 +72,10 @@ fn reads(name: &[u8], table: &[u8]) {
     end_line();
 }
 
-// The set of a row of table A.
-fn sets(name: &[u8], row: u32, known: u32, request: u32) {
+// The set of a row.
+fn sets(name: &[u8], table: &[u8], row: u32, known: u32, request: u32) {
     case(name);
-    let a = A;
-    let s = pierstride::pier_possible(&a, row, known, request);
+    let s = pierstride::pier_possible(table, row, known, request);
     if s.refusal != 0 {
         refused(s.refusal, s.place);
         return;
@@ -174,8 +173,8 @@ fn one_question_more() {
 
 // Table A: what is possible, and the verdict.
 fn table_a(a: &[u8]) {
-    sets(b"A, row 2, predicate 0 known yes", 2, 1, 1);
-    sets(b"A, row 2, both known yes", 2, 3, 3);
+    sets(b"A, row 2, predicate 0 known yes", a, 2, 1, 1);
+    sets(b"A, row 2, both known yes", a, 2, 3, 3);
     asks(b"A, question 2", a, 2, 4);
     asks(b"A, question 2", a, 2, 5);
 }
@@ -206,6 +205,37 @@ fn numbers_too_high() {
     reads(b"33 05", b"\x33\x05");
 }
 
+// One choice serves both where both numbers are equal, in a row, a comparison and "both"; two rows of the same content are chosen from each for itself.
+fn against_itself() {
+    sets(
+        b"11 00 34 00 00, row 1, nothing known",
+        b"\x11\x00\x34\x00\x00",
+        1,
+        0,
+        0,
+    );
+    asks(b"11 00 40 00 00, question 0", b"\x11\x00\x40\x00\x00", 0, 1);
+    sets(
+        b"11 00 11 00 34 00 01, row 2, nothing known",
+        b"\x11\x00\x11\x00\x34\x00\x01",
+        2,
+        0,
+        0,
+    );
+    asks(
+        b"11 00 11 00 40 00 01, question 0",
+        b"\x11\x00\x11\x00\x40\x00\x01",
+        0,
+        1,
+    );
+    asks(
+        b"11 00 40 00 00 43 00 00, question 1",
+        b"\x11\x00\x40\x00\x00\x43\x00\x00",
+        1,
+        1,
+    );
+}
+
 fn rows_taken(a: &[u8]) {
     takes(b"A", a, 0);
     takes(b"A", a, 2);
@@ -227,6 +257,7 @@ fn main() {
     one_question_more();
     strike_cases();
     numbers_too_high();
+    against_itself();
     rows_taken(&a);
     takes(b"empty table", &zeros[..0], 0);
 }

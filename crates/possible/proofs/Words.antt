@@ -15,7 +15,7 @@ use Rattle.possible.specs.Sets.{Finite, Set, imageTwo, mask, ofMask}
 use Rattle.possible.proofs.Masks.{mask-below, low}
 
 -- a digit of a word in hexadecimal, from the low end; the word with given digits
-abbrev digit : ℕ → ℕ → ℕ
+abbrev pub digit : ℕ → ℕ → ℕ
 digit w n = w / 2 ^ (4 * n) % 16
 
 abbrev spelling : ℕ → (ℕ → ℕ) → ℕ

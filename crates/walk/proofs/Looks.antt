@@ -28,7 +28,9 @@ settled t false false e q = refl
 
 -- and one within it that has a member is settled alike
 pub settled-within : (t u : Set truths) (b r : Bool) → Within t u → t .has r ≡ true → look u ≡ cond b Nothing Found → look t ≡ cond b Nothing Found
-settled-within t u b r within has e = at b (t .has true) (t .has false) refl refl (λ x q. settled u b x e (within x q)) (rw (settled u b r e (within r has)) at has)
+settled-within t u b r within has e =
+    let only : (x : Bool) → t .has x ≡ true → x ≡ b = λ x q. settled u b x e (within x q) in
+    at b (t .has true) (t .has false) refl refl only (rw (only r has) at has)
   where
     at : (b p q : Bool) → t .has true ≡ p → t .has false ≡ q → ((x : Bool) → t .has x ≡ true → x ≡ b) → t .has b ≡ true →
         cond q (cond p Open Found) (cond p Nothing Open) ≡ cond b Nothing Found

@@ -2,7 +2,7 @@
 //!
 //! The laws are the demands of the specification, stated over answers alone:
 //! every request is tried, so they do not depend on how a walk is made or a set
-//! is formed; but those of equal numbers do. Those of reading are tried on given
+//! is formed, but for those of equal numbers. Those of reading are tried on given
 //! and on random bytes, and go by the list of kinds in `kinds`, not by the
 //! implementation's own.
 

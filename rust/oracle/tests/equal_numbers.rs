@@ -16,7 +16,7 @@ use pierstride_oracle::{Choice, Refusal};
 const TELLING: std::ops::RangeInclusive<u8> = 0x30..=0x35;
 
 /// So many visits are enough to see that a walk is another.
-const VISITS: u32 = 2000;
+const VISITS: u32 = 300;
 
 fn sets_differ(table: &[u8], row: u32, known: u32, yes: u32) -> Result<bool, Refusal> {
     let of_01 = possible_by(Choice::Independent, table, row, known, yes)?;
@@ -98,7 +98,7 @@ fn random_tables_tell_one_choice_from_two() {
     let full = [&tables::SMALL_WITH_SETS, &tables::WALKED, &tables::WALKED_WITH_SETS];
     for shape in tables::SHAPES.iter().chain(full) {
         let walks = all.walks;
-        (0..100).for_each(|_| all.count(&tables::table(&mut random, shape)));
+        (0..60).for_each(|_| all.count(&tables::table(&mut random, shape)));
         let walks = Share { differ: all.walks.differ - walks.differ, of: all.walks.of - walks.of };
         walks.require(8, &format!("walks of tables of {:?} rows", shape.rows));
     }
