@@ -31,7 +31,7 @@ use Rattle.table.specs.Reading.{reading}
 use Rattle.table.proofs.Laws.{covered, question-sound}
 use Rattle.decide.specs.Meaning.{bit}
 use Rattle.decide.proofs.Rules.{row-named}
-use Rattle.possible.specs.Sets.{decisions, Set, imageOne, mask, ofMask}
+use Rattle.possible.specs.Sets.{decisions, imageOne, mask, ofMask}
 use Rattle.possible.specs.Twice.{possibleTwice}
 use Rattle.possible.specs.Possible.{possible}
 use Rattle.possible.proofs.Itself.{itself-set}

@@ -24,7 +24,8 @@ use Rattle.decide.specs.Requests.{Fills, Learns, AllKnown}
 use Rattle.decide.proofs.RowByRow.{equal-values, side-by-side}
 use Rattle.possible.specs.Sets.{decisions, Set, Within, single, either, imageOne, imageTwo}
 use Rattle.possible.specs.Possible.{factSet, setBy, setOf, possible}
-use Rattle.possible.proofs.Images.{single-has, either-left, either-right, one-has, two-has, one-single, two-single, one-within, two-within}
+use Rattle.possible.proofs.Images.{single-has, either-left, either-right, one-has, two-has, one-single, two-single}
+use Rattle.possible.proofs.Images.{Fewer, as-many, one-within, two-within}
 
 -- the set of a fact, by whether it is known and whether it is yes; unknown, it has what is decided either way
 abbrev factBy : Decision → Bool → Bool → Set decisions
@@ -73,21 +74,22 @@ fact-within v p known request more then h = go (bit known p) refl (bit more p) r
     go false e true d = either-way v (bit then p)
     go false e false d = λ x q. q
 
-row-within : (k : RowKind) (a : ℕ) (equal : Bool) (known request more then : ℕ) → Learns known request more then → (s t u v : Set decisions) →
-    Within s u → Within t v → Within (setBy k a equal more then s t) (setBy k a equal known request u v)
+pub row-within : (k : RowKind) (a : ℕ) (equal other : Bool) (known request more then : ℕ) → Learns known request more then → (s t u v : Set decisions) →
+    Fewer equal other s t → Within s u → Within t v → Within (setBy k a equal more then s t) (setBy k a other known request u v)
 unfolding setBy
-row-within (Always w) a equal known request more then h s t u v p q = λ x e. e
-row-within DenyIf a equal known request more then h s t u v p q = fact-within D a known request more then h
-row-within GrantIf a equal known request more then h s t u v p q = fact-within G a known request more then h
-row-within (One op) a equal known request more then h s t u v p q = one-within decisions (one op) s u p
-row-within (Two op) a equal known request more then h s t u v p q = two-within decisions (two op) equal s t u v p q
+row-within (Always w) a equal other known request more then h s t u v few p q = λ x e. e
+row-within DenyIf a equal other known request more then h s t u v few p q = fact-within D a known request more then h
+row-within GrantIf a equal other known request more then h s t u v few p q = fact-within G a known request more then h
+row-within (One op) a equal other known request more then h s t u v few p q = one-within decisions (one op) s u p
+row-within (Two op) a equal other known request more then h s t u v few p q = two-within decisions (two op) equal other s t u v few p q
 
 pub learning-adds-none : (rows : List Entry) (known request more then r : ℕ) → Learns known request more then →
     Within (possible rows more then r) (possible rows known request r)
 learning-adds-none rows known request more then r h =
     side-by-side Within (setOf more then) (setOf known request) (single U) (single U) rows (λ x e. e)
     (λ i s u within. let e = getD rows i blank in
-    row-within (asRow (e .kind)) (e .a) (equalNumbers e) known request more then h _ _ _ _ (within (e .a)) (within (e .b))) r
+    row-within (asRow (e .kind)) (e .a) (equalNumbers e) (equalNumbers e) known request more then h _ _ _ _ (as-many (equalNumbers e) _ _)
+    (within (e .a)) (within (e .b))) r
 
 -- nothing that the rows use is unknown
 row-exact : (k : RowKind) (a : ℕ) (equal : Bool) (n known request : ℕ) → AllKnown n known → usedBy (formOf (Row k) .names) a ≤ n →

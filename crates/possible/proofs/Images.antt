@@ -79,24 +79,32 @@ choosing-within : {F G : Finite} (s t : Set F) (f g : F .Member → Set G) → W
     Within (choosing s f) (choosing t g)
 choosing-within s t f g a b v e = choosing-from s f v e (λ x m r. choosing-has t g x v (a x m) (b x m v r))
 
--- which choices there are beside another: one of the set that is equal to it where one must serve both; none where the set has none; and where it has one alone
+-- one choice for both where there were two is no other choice, if both sets are one: `equal` and `other` say whether one choice serves both
+abbrev pub Fewer : {F : Finite} → Bool → Bool → Set F → Set F → Type 0
+Fewer equal other s t = (other ≡ true → equal ≡ true) × (equal ≡ true → other ≡ false → s ≡ t)
+
+pub as-many : {F : Finite} (equal : Bool) (s t : Set F) → Fewer equal equal s t
+as-many equal s t = (λ e. e, λ e d. never (sym e ∙ d))
+
+pub for-twice : {F : Finite} (equal : Bool) (s t : Set F) → (equal ≡ true → s ≡ t) → Fewer equal false s t
+for-twice equal s t e = (λ d. never (sym d), λ h d. e h)
+
+-- what may be chosen beside y: a member of the set that is y where one choice serves both; no more from fewer; the one member that there is
 module _ {F : Finite} where
   choice-has : (equal : Bool) (s : Set F) (x y : F .Member) → s .has x ≡ true → (equal ≡ true → x ≡ y) → choices equal s y .has x ≡ true
   choice-has true s x y a e = rw (e refl) (single-has F y)
   choice-has false s x y a e = a
 
-  choice-within : (equal : Bool) (s t : Set F) (y : F .Member) → Within s t → Within (choices equal s y) (choices equal t y)
-  choice-within true s t y a = λ x e. e
-  choice-within false s t y a = a
+  choice-within : (equal other : Bool) (s t p : Set F) (y : F .Member) → Fewer equal other s t → Within s p → t .has y ≡ true →
+      Within (choices equal s y) (choices other p y)
+  choice-within true true s t p y few a m = λ x e. e
+  choice-within true false s t p y few a m = λ x e. a x (rw (few .1 refl refl, ← single-is F y x e) m)
+  choice-within false true s t p y few a m = never (sym (few .0 refl))
+  choice-within false false s t p y few a m = a
 
   choice-single : (equal : Bool) (x y : F .Member) → (equal ≡ true → x ≡ y) → choices equal (single {F = F} x) y ≡ single x
   choice-single true x y e = ap (single {F = F}) (sym (e refl))
   choice-single false x y e = refl
-
-  -- one choice that serves both is one of those that there would be for each
-  choice-fewer : (equal : Bool) (s t : Set F) (y : F .Member) → Within s t → (equal ≡ true → s .has y ≡ true) → Within (choices equal s y) t
-  choice-fewer true s t y a has = λ x e. a x (rw (← single-is F y x e) (has refl))
-  choice-fewer false s t y a has = a
 
 module _ {F : Finite} (G : Finite) where
   -- the result of every choice is in the image
@@ -129,22 +137,12 @@ module _ {F : Finite} (G : Finite) where
   unfolding imageOne
   one-within f s t a = choosing-within s t (λ x. single (f x)) (λ x. single (f x)) a (λ x m v e. e)
 
-  two-fewer : (f : F .Member → F .Member → G .Member) (equal other : Bool) (s t p q : Set F) →
-      ((y : F .Member) → t .has y ≡ true → Within (choices equal s y) (choices other p y)) → Within t q →
+  pub two-within : (f : F .Member → F .Member → G .Member) (equal other : Bool) (s t p q : Set F) → Fewer equal other s t → Within s p → Within t q →
       Within (imageTwo {G = G} f equal s t) (imageTwo f other p q)
   unfolding imageTwo
-  two-fewer f equal other s t p q a b =
+  two-within f equal other s t p q few a b =
       choosing-within t q (λ y. imageOne (λ x. f x y) (choices equal s y)) (λ y. imageOne (λ x. f x y) (choices other p y)) b
-      (λ y m. one-within (λ x. f x y) (choices equal s y) (choices other p y) (a y m))
-
-  pub two-within : (f : F .Member → F .Member → G .Member) (equal : Bool) (s t p q : Set F) → Within s p → Within t q →
-      Within (imageTwo {G = G} f equal s t) (imageTwo f equal p q)
-  two-within f equal s t p q a b = two-fewer f equal equal s t p q (λ y m. choice-within equal s p y a) b
-
-  -- nor has one choice that serves both: it is one of the two that 01 made
-  pub two-twice : (f : F .Member → F .Member → G .Member) (equal : Bool) (s t p q : Set F) → Within s p → Within t q → (equal ≡ true → s ≡ t) →
-      Within (imageTwo {G = G} f equal s t) (imageTwo f false p q)
-  two-twice f equal s t p q a b e = two-fewer f equal false s t p q (λ y m. choice-fewer equal s p y a (λ h. rw (e h) m)) b
+      (λ y m. one-within (λ x. f x y) (choices equal s y) (choices other p y) (choice-within equal other s t p y few a m))
 
 -- one choice has one result
 pub one-single : (F G : Finite) (f : F .Member → G .Member) (x : F .Member) → imageOne f (single {F = F} x) ≡ single {F = G} (f x)

@@ -5,16 +5,12 @@ use mathlib.Core.Path.{refl}
 use Rattle.belnap.specs.One.{One, OneOutput}
 use Rattle.belnap.proofs.Unique.{by-definition}
 use Rattle.possible.proofs.sets.digit.Reads as digit
-use Rattle.possible.proofs.sets.word_for.Reads as word_for
 use Rattle.possible.proofs.mask_at.Reads as mask_at
 use Rattle.possible.proofs.fill_sets.Reads as fill_sets
 use Rattle.possible.proofs.possible.Reads as possible
 
 pub one-digit : One digit.Post
 one-digit κs args exit = by-definition
-
-pub one-word : One word_for.Post
-one-word κs args exit a b p q = by-definition a b (p .0) (q .0)
 
 pub one-mask : One mask_at.Post
 one-mask κs args exit = by-definition

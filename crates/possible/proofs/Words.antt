@@ -3,15 +3,12 @@
 -- Assumes nothing.
 use Prim.Native.Nat.{ℕ, zero, suc, _+_, _*_, _/_, _%_, _^_, _≤_, _<_}
 use mathlib.Core.Path.{_≡_, refl, _∙_, ap}
-use mathlib.Core.Bool.{Bool, true, false, cond}
 use mathlib.Core.List.{List, [], _∷_}
 use native.Mathlib.Nat.{le-of-suc-le-suc, div-div-eq-div-mul, lt-of-lt-of-le, mod-lt}
 use native.Mathlib.Omega.{arith}
-use lib.Dec.{eqb}
 use lib.ListN.{length, getD}
 use lib.Pow.{pow-add, pow-pos, pow-mono}
-use borrow.Author.Tests.{eq-eqb, ne-eqb}
-use Rattle.possible.specs.Sets.{Finite, Set, imageTwo, mask, ofMask}
+use Rattle.possible.specs.Sets.{Finite, Set, mask, ofMask}
 use Rattle.possible.proofs.Masks.{mask-below, low}
 
 -- a digit of a word in hexadecimal, from the low end; the word with given digits
@@ -40,12 +37,12 @@ listed zero f k h = absurd (omega arith)
 listed (suc n) f zero h = refl
 listed (suc n) f (suc k) h = listed n (λ k. f (suc k)) k (le-of-suc-le-suc h)
 
--- the word of the images of one operand's sets; for two operands the list of words, one for each set of the first, and behind them the diagonal's
+-- the word of the images of one operand's sets, and for two operands the list of words, one for each set of the first
 abbrev pub word : {F G : Finite} → (Set F → Set G) → ℕ
 word {F} {G} f = spelling (2 ^ length (F .members)) (λ n. mask G (f (ofMask F n)))
 
-abbrev pub words : (F G : Finite) → (F .Member → F .Member → G .Member) → List ℕ
-words F G f = let sets = 2 ^ length (F .members) in listing (suc sets) (λ m. word {G = G} (imageTwo f (eqb m sets) (ofMask F m)))
+abbrev pub words : {F G : Finite} → (Set F → Set F → Set G) → List ℕ
+words {F} f = listing (2 ^ length (F .members)) (λ m. word (f (ofMask F m)))
 
 -- a look-up in them: a mask is a digit where there are at most four members
 module _ (F G : Finite) (few : length (G .members) ≤ 4) where
@@ -55,23 +52,10 @@ module _ (F G : Finite) (few : length (G .members) ≤ 4) where
       (n % 2 ^ length (F .members)) (mod-lt n (pow-pos (length (F .members))))
       ∙ ap (λ (s : Set F). mask G (f s)) (low F n)
 
-  abbrev sets : ℕ
-  sets = 2 ^ length (F .members)
-
-  module _ (f : F .Member → F .Member → G .Member) where
-    -- where one choice serves both, the first operand's set does not count
-    diagonal : (s p t : Set F) → imageTwo {G = G} f true s t ≡ imageTwo f true p t
-    unfolding imageTwo
-    diagonal s p t = refl
-
-    word-at : (k n : ℕ) → k < suc sets → digit (getD (words F G f) k 0) (n % sets) ≡ mask G (imageTwo f (eqb k sets) (ofMask F k) (ofMask F n))
-    word-at k n h =
-        ap (λ (w : ℕ). digit w (n % sets)) (listed (suc sets) (λ m. word {G = G} (imageTwo f (eqb m sets) (ofMask F m))) k h)
-        ∙ in-word (imageTwo f (eqb k sets) (ofMask F k)) n
-
-    pub in-words : (equal : Bool) (m n : ℕ) {i : ℕ} → i ≡ cond equal sets (m % sets) →
-        digit (getD (words F G f) i 0) (n % sets) ≡ mask G (imageTwo f equal (ofMask F m) (ofMask F n))
-    in-words true m n e = rw e (word-at sets n (omega arith) ∙ rw (eq-eqb sets sets refl) (ap (mask G) (diagonal (ofMask F sets) (ofMask F m) (ofMask F n))))
-    in-words false m n e =
-        let l = mod-lt m (pow-pos (length (F .members))) in
-        rw e (word-at (m % sets) n (omega (arith, l)) ∙ rw (ne-eqb (m % sets) sets (λ q. omega (arith, l, q)), low F m))
+  pub in-words : (f : Set F → Set F → Set G) (m n : ℕ) →
+      digit (getD (words f) (m % 2 ^ length (F .members)) 0) (n % 2 ^ length (F .members)) ≡ mask G (f (ofMask F m) (ofMask F n))
+  in-words f m n =
+      let size = 2 ^ length (F .members) in
+      ap (λ (w : ℕ). digit w (n % size)) (listed size (λ m. word (f (ofMask F m))) (m % size) (mod-lt m (pow-pos (length (F .members)))))
+      ∙ in-word (f (ofMask F (m % size))) n
+      ∙ ap (λ (s : Set F). mask G (f s (ofMask F n))) (low F m)

@@ -3,9 +3,9 @@ use crate::tables;
 use belnap::Decision;
 use operators::OneRow;
 use operators::TwoRow;
-ghost use mathlib.Core.Bool.{cond};
+ghost use mathlib.Core.Bool.{false};
 ghost use mathlib.Core.Path.{_≡_};
-ghost use Prim.Native.Nat.{_*_, _/_, _%_, _^_, _≤_};
+ghost use Prim.Native.Nat.{_*_, _/_, _%_, _^_};
 ghost use Rattle.operators.specs.Operators.{one, two};
 ghost use Rattle.possible.specs.Sets.{decisions, mask, ofMask, single, either, imageOne, imageTwo};
 
@@ -53,18 +53,11 @@ pub(crate) fn image_one(op: OneRow, s: u8) -> u8
     }
 }
 
-// Which word of a table for two operands holds their images: that of the first operand's set, or where both numbers are equal the one behind all sets.
-pub fn word_for(equal: bool, s: u8) -> usize
-    ensures { λ r. ⌜ (r ≡ cond equal 16 (s % 16)) × (r ≤ 16) ⌝ }
+// Every result of a two-row operator over every choice from two sets, each by itself.
+fn image_apart(op: TwoRow, s: u8, t: u8) -> u8
+    ensures { λ r. ⌜ r ≡ mask decisions (imageTwo (two op) false (ofMask decisions s) (ofMask decisions t)) ⌝ }
 {
-    if equal { 16 } else { (s % 16) as usize }
-}
-
-// Every result of a two-row operator over every choice from two sets; where the numbers of both rows are equal, one choice serves both.
-pub(crate) fn image_two(op: TwoRow, equal: bool, s: u8, t: u8) -> u8
-    ensures { λ r. ⌜ r ≡ mask decisions (imageTwo (two op) equal (ofMask decisions s) (ofMask decisions t)) ⌝ }
-{
-    let i = word_for(equal, s);
+    let i = (s % 16) as usize;
     match op {
         TwoRow::TruthMeet => digit(tables::TRUTH_MEET[i], t),
         TwoRow::TruthJoin => digit(tables::TRUTH_JOIN[i], t),
@@ -76,5 +69,34 @@ pub(crate) fn image_two(op: TwoRow, equal: bool, s: u8, t: u8) -> u8
         TwoRow::OverrideD => digit(tables::OVERRIDE_D[i], t),
         TwoRow::OverrideG => digit(tables::OVERRIDE_G[i], t),
         TwoRow::OverrideC => digit(tables::OVERRIDE_C[i], t),
+    }
+}
+
+// Every result of a two-row operator over every choice from one set, where it serves both operands.
+fn image_itself(op: TwoRow, s: u8) -> u8
+    ensures { λ r. ⌜ r ≡ mask decisions (imageOne (λ x. two op x x) (ofMask decisions s)) ⌝ }
+{
+    match op {
+        TwoRow::TruthMeet => digit(tables::ITSELF, s),
+        TwoRow::TruthJoin => digit(tables::ITSELF, s),
+        TwoRow::KnowledgeMeet => digit(tables::ITSELF, s),
+        TwoRow::KnowledgeJoin => digit(tables::ITSELF, s),
+        TwoRow::Implication => digit(tables::IMPLICATION_OF_ITSELF, s),
+        TwoRow::Guard => digit(tables::GUARD_OF_ITSELF, s),
+        TwoRow::OverrideU => digit(tables::ITSELF, s),
+        TwoRow::OverrideD => digit(tables::ITSELF, s),
+        TwoRow::OverrideG => digit(tables::ITSELF, s),
+        TwoRow::OverrideC => digit(tables::ITSELF, s),
+    }
+}
+
+// Every result of a two-row operator over every choice from the sets of two rows; where their numbers are equal, one choice serves both.
+pub(crate) fn image_two(op: TwoRow, equal: bool, s: u8, t: u8) -> u8
+    ensures { λ r. ⌜ r ≡ mask decisions (imageTwo (two op) equal (ofMask decisions s) (ofMask decisions t)) ⌝ }
+{
+    if equal {
+        image_itself(op, t)
+    } else {
+        image_apart(op, s, t)
     }
 }

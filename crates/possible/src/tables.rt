@@ -1,6 +1,5 @@
 // Each operator's images, as words of sixteen hexadecimal digits: digit n, from the low end, is the image of the set with mask n.
-// A two-row operator has seventeen words: word m is for the first operand's set with mask m, and the last, the diagonal, is for a row and itself,
-// where one choice serves both.
+// A two-row operator has sixteen words: word m is for the first operand's set with mask m; and one more, its diagonal.
 pub const NEGATION: u64 = 0xfebadc9876325410;
 
 pub const CONFLATION: u64 = 0xf7d5b391e6c4a280;
@@ -9,7 +8,14 @@ pub const CLOSED_DEFAULT: u64 = 0x6666222266642220;
 
 pub const OPEN_DEFAULT: u64 = 0x6644664466446240;
 
-pub const TRUTH_MEET: [u64; 17] = [
+// The diagonals: the images where one choice serves both operands. The meets, the joins and the overrides give the choice back.
+pub const ITSELF: u64 = 0xfedcba9876543210;
+
+pub const IMPLICATION_OF_ITSELF: u64 = 0xccccccc844444440; // digit 5: u or g implies itself by g alone, 4
+
+pub const GUARD_OF_ITSELF: u64 = 0xdddc999855541110;
+
+pub const TRUTH_MEET: [u64; 16] = [
     0x0000000000000000,
     0x3333323233113210,
     0x2222222222222220,
@@ -26,10 +32,9 @@ pub const TRUTH_MEET: [u64; 17] = [
     0xffffbabafffd3230,
     0xfefebabafefe3230,
     0xffffbabaffff3230,
-    0xfedcba9876543210,
 ];
 
-pub const TRUTH_JOIN: [u64; 17] = [
+pub const TRUTH_JOIN: [u64; 16] = [
     0x0000000000000000,
     0x5554555455541110,
     0xfedcba9876543210,
@@ -46,10 +51,9 @@ pub const TRUTH_JOIN: [u64; 17] = [
     0xdddcdddcdd54dd50,
     0xfedcfedcfe54fe50,
     0xffdcffdcff54ff50,
-    0xfedcba9876543210,
 ];
 
-pub const KNOWLEDGE_MEET: [u64; 17] = [
+pub const KNOWLEDGE_MEET: [u64; 16] = [
     0x0000000000000000,
     0x1111111111111110,
     0x3333323233113210,
@@ -66,10 +70,9 @@ pub const KNOWLEDGE_MEET: [u64; 17] = [
     0xffddffdd77553310,
     0xfffffffe77553310,
     0xffffffff77553310,
-    0xfedcba9876543210,
 ];
 
-pub const KNOWLEDGE_JOIN: [u64; 17] = [
+pub const KNOWLEDGE_JOIN: [u64; 16] = [
     0x0000000000000000,
     0xfedcba9876543210,
     0xaaa8aaa8aaa82220,
@@ -86,10 +89,9 @@ pub const KNOWLEDGE_JOIN: [u64; 17] = [
     0xfedcfad8fedcfad0,
     0xeeeceae8eeeceae0,
     0xfefcfaf8fefcfaf0,
-    0xfedcba9876543210,
 ];
 
-pub const IMPLICATION: [u64; 17] = [
+pub const IMPLICATION: [u64; 16] = [
     0x0000000000000000,
     0x4444444444444440,
     0x4444444444444440,
@@ -106,10 +108,9 @@ pub const IMPLICATION: [u64; 17] = [
     0xfedcfedc76547650,
     0xfedcfedc76547650,
     0xfedcfedc76547650,
-    0xccccccc844444440, // digit 5: u or g implies itself by g alone, 4
 ];
 
-pub const GUARD: [u64; 17] = [
+pub const GUARD: [u64; 16] = [
     0x0000000000000000,
     0x1111111111111110,
     0x1111111111111110,
@@ -126,10 +127,9 @@ pub const GUARD: [u64; 17] = [
     0xffddbb9977553310,
     0xffddbb9977553310,
     0xffddbb9977553310,
-    0xdddc999855541110,
 ];
 
-pub const OVERRIDE_U: [u64; 17] = [
+pub const OVERRIDE_U: [u64; 16] = [
     0x0000000000000000,
     0xfedcba9876543210,
     0x2222222222222220,
@@ -146,10 +146,9 @@ pub const OVERRIDE_U: [u64; 17] = [
     0xfedcfedcfedcfed0,
     0xeeeeeeeeeeeeeee0,
     0xfefefefefefefef0,
-    0xfedcba9876543210,
 ];
 
-pub const OVERRIDE_D: [u64; 17] = [
+pub const OVERRIDE_D: [u64; 16] = [
     0x0000000000000000,
     0x1111111111111110,
     0xfedcba9876543210,
@@ -166,10 +165,9 @@ pub const OVERRIDE_D: [u64; 17] = [
     0xddddddddddddddd0,
     0xfedcfedcfedcfed0,
     0xffddffddffddffd0,
-    0xfedcba9876543210,
 ];
 
-pub const OVERRIDE_G: [u64; 17] = [
+pub const OVERRIDE_G: [u64; 16] = [
     0x0000000000000000,
     0x1111111111111110,
     0x2222222222222220,
@@ -186,10 +184,9 @@ pub const OVERRIDE_G: [u64; 17] = [
     0xffddbb99ffddbb90,
     0xfefebabafefebab0,
     0xffffbbbbffffbbb0,
-    0xfedcba9876543210,
 ];
 
-pub const OVERRIDE_C: [u64; 17] = [
+pub const OVERRIDE_C: [u64; 16] = [
     0x0000000000000000,
     0x1111111111111110,
     0x2222222222222220,
@@ -206,5 +203,4 @@ pub const OVERRIDE_C: [u64; 17] = [
     0xffddffdd77557750,
     0xfefefefe76767670,
     0xffffffff77777770,
-    0xfedcba9876543210,
 ];

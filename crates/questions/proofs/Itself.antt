@@ -1,7 +1,7 @@
 -- A row against itself, and a question (02, L3): a comparison of a row with itself is true whatever is known, and "both" of a question and itself has that
 -- question's set.
 -- Assumes nothing.
-use mathlib.Core.Path.{_≡_, refl, ap, _∙_}
+use mathlib.Core.Path.{_≡_, refl, _∙_}
 use mathlib.Core.Bool.{Bool, true, false, _&&_}
 use mathlib.Core.List.{List}
 use Prim.Native.Nat.{ℕ, _<_}

@@ -20,7 +20,7 @@ use Rattle.decide.proofs.RowByRow.{equal-values, side-by-side}
 use Rattle.decide.proofs.Independence.{beyond-n}
 use Rattle.possible.specs.Sets.{decisions, truths, Set, Within, single, imageOne, imageTwo}
 use Rattle.possible.specs.Possible.{possible}
-use Rattle.possible.proofs.Images.{one-has, two-has, one-single, two-single, one-within, two-within}
+use Rattle.possible.proofs.Images.{one-has, two-has, one-single, two-single, Fewer, as-many, one-within, two-within}
 use Rattle.possible.proofs.Filling.{filling-member, learning-adds-none, known-exact}
 use Rattle.questions.specs.Questions.{truthBy, asks, truth, truthSetBy, asksSet, truthSet}
 
@@ -43,12 +43,13 @@ filling-truth rows questions known request o j h =
     (equal-values (decision rows o) e) (equal-values x e)) j
 
 -- learning a fact adds none
-question-within : (k : QuestionKind) (equal : Bool) (s t u v : Set decisions) (x y p q : Set truths) → Within s u → Within t v → Within x p → Within y q →
-    Within (truthSetBy k equal s t x y) (truthSetBy k equal u v p q)
+pub question-within : (k : QuestionKind) (equal other : Bool) (s t u v : Set decisions) (x y p q : Set truths) →
+    Fewer equal other s t → Fewer equal other x y → Within s u → Within t v → Within x p → Within y q →
+    Within (truthSetBy k equal s t x y) (truthSetBy k other u v p q)
 unfolding truthSetBy
-question-within (Compare o) equal s t u v x y p q a b c d = two-within truths (atOrBelow o) equal s t u v a b
-question-within Not equal s t u v x y p q a b c d = one-within truths not x p c
-question-within Both equal s t u v x y p q a b c d = two-within truths _&&_ equal x y p q c d
+question-within (Compare o) equal other s t u v x y p q rows asked a b c d = two-within truths (atOrBelow o) equal other s t u v rows a b
+question-within Not equal other s t u v x y p q rows asked a b c d = one-within truths not x p c
+question-within Both equal other s t u v x y p q rows asked a b c d = two-within truths _&&_ equal other x y p q asked c d
 
 pub learning-adds-no-truth : (rows questions : List Entry) (known request more then j : ℕ) → Learns known request more then →
     Within (truthSet rows questions more then j) (truthSet rows questions known request j)
@@ -56,7 +57,8 @@ learning-adds-no-truth rows questions known request more then j h =
     side-by-side Within (asksSet (possible rows more then)) (asksSet (possible rows known request)) (single true) (single true) questions (λ r e. e)
     (λ i x p within. let e = getD questions i blank in
     let learns : (r : ℕ) → Within (possible rows more then r) (possible rows known request r) = λ r. learning-adds-none rows known request more then r h in
-    question-within (asQuestion (e .kind)) (equalNumbers e) _ _ _ _ _ _ _ _ (learns (e .a)) (learns (e .b)) (within (e .a)) (within (e .b))) j
+    question-within (asQuestion (e .kind)) (equalNumbers e) (equalNumbers e) _ _ _ _ _ _ _ _ (as-many (equalNumbers e) _ _) (as-many (equalNumbers e) _ _)
+    (learns (e .a)) (learns (e .b)) (within (e .a)) (within (e .b))) j
 
 -- with nothing unknown only the truth is left
 question-exact : (k : QuestionKind) (equal : Bool) (s t : Set decisions) (u v : Decision) (x y : Set truths) (p q : Bool) →

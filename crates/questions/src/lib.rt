@@ -18,7 +18,10 @@ ghost use Rattle.questions.specs.Inner.{topBy, topIn, setAt};
 fn compare_set(order: Order, equal: bool, s: u8, t: u8) -> u8
     ensures { λ r. ⌜ r ≡ mask truths (imageTwo (atOrBelow order) equal (ofMask decisions s) (ofMask decisions t)) ⌝ }
 {
-    let i = possible::sets::word_for(equal, s);
+    if equal {
+        return possible::sets::digit(tables::ITSELF, t);
+    }
+    let i = (s % 16) as usize;
     match order {
         Order::Truth => possible::sets::digit(tables::TRUTH_ORDER[i], t),
         Order::Knowledge => possible::sets::digit(tables::KNOWLEDGE_ORDER[i], t),
@@ -37,7 +40,7 @@ fn both_set(equal: bool, x: u8, y: u8) -> u8
     ensures { λ r. ⌜ r ≡ mask truths (imageTwo _&&_ equal (ofMask truths x) (ofMask truths y)) ⌝ }
 {
     if equal {
-        possible::sets::digit(tables::BOTH[4], y % 4)
+        possible::sets::digit(tables::BOTH_OF_ITSELF, y % 4)
     } else {
         let i = (x % 4) as usize;
         possible::sets::digit(tables::BOTH[i], y % 4)

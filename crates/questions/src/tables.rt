@@ -1,7 +1,7 @@
 // The sets of truths that comparisons, "not" and "both" bring, as words of hexadecimal digits: digit n, from the low end, is for the operand n.
-// A comparison has seventeen words and "both" has five: word m is for the first operand's set with mask m, and the last, the diagonal, is for a row or a
-// question and itself, where one choice serves both.
-pub const TRUTH_ORDER: [u64; 17] = [
+// A comparison has sixteen words and "both" has four: word m is for the first operand's set with mask m; and one more, the diagonal, for a row or a question
+// and itself, where one choice serves both.
+pub const TRUTH_ORDER: [u64; 16] = [
     0x0000000000000000,
     0x3333323233113210,
     0x1111111111111110,
@@ -18,10 +18,9 @@ pub const TRUTH_ORDER: [u64; 17] = [
     0x3333333333313230,
     0x3333333333313330,
     0x3333333333313330,
-    0x1111111111111110,
 ];
 
-pub const KNOWLEDGE_ORDER: [u64; 17] = [
+pub const KNOWLEDGE_ORDER: [u64; 16] = [
     0x0000000000000000,
     0x1111111111111110,
     0x3333313133223120,
@@ -38,9 +37,12 @@ pub const KNOWLEDGE_ORDER: [u64; 17] = [
     0x3333333133333330,
     0x3333333133333320,
     0x3333333133333330,
-    0x1111111111111110,
 ];
+
+pub const ITSELF: u64 = 0x1111111111111110;
 
 pub const NOT: u64 = 0x3120;
 
-pub const BOTH: [u64; 5] = [0x0000, 0x3210, 0x2220, 0x3230, 0x3210];
+pub const BOTH: [u64; 4] = [0x0000, 0x3210, 0x2220, 0x3230];
+
+pub const BOTH_OF_ITSELF: u64 = 0x3210;

@@ -1,7 +1,7 @@
 -- A row against itself, and a question (02, L3): a comparison of a row with itself holds after one visit, and "both" of a question and itself is walked as that
 -- question is.
 -- Assumes nothing.
-use mathlib.Core.Path.{_≡_, refl, sym, ap, fun-ext, _∙_}
+use mathlib.Core.Path.{_≡_, refl, sym, ap, fun-ext}
 use mathlib.Core.List.{List}
 use Prim.Native.Nat.{ℕ, _-_, _<_}
 use native.Mathlib.Omega.{arith}

@@ -1,7 +1,7 @@
 -- "Walks get shorter" (02, L3): no walk makes more visits than the one by 01's own choice. Stated of any two seeings of which one is settled wherever the
 -- other is, and alike; then of the questions of a table.
 -- Assumes nothing.
-use mathlib.Core.Path.{_≡_, refl, sym, ap₂, _∙_}
+use mathlib.Core.Path.{_≡_, refl, sym, _∙_}
 use mathlib.Core.Bool.{Bool, true, false, cond}
 use mathlib.Core.List.{List, [], _∷_, _++_, append-nil}
 use mathlib.Core.Option.{Option, none, some}
