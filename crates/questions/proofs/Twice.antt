@@ -23,5 +23,6 @@ truth-within-twice rows questions known request j =
     side-by-side Within (asksSet (possible rows known request)) (asksTwice (possibleTwice rows known request)) (single true) (single true) questions (λ b i. i)
     (λ i x p within. let e = getD questions i blank in
     let row : (r : ℕ) → Within (possible rows known request r) (possibleTwice rows known request r) = within-twice rows known request in
-    question-within (asQuestion (e .kind)) (equalNumbers e) false _ _ _ _ _ _ _ _ (for-twice (equalNumbers e) _ _ (equal-values (possible rows known request) e))
-    (for-twice (equalNumbers e) _ _ (equal-values x e)) (row (e .a)) (row (e .b)) (within (e .a)) (within (e .b))) j
+    question-within (asQuestion (e .kind)) (equalNumbers e) false _ _ _ _ _ _ _ _
+    (for-twice (equalNumbers e) _ _ (equal-values (possible rows known request) e)) (for-twice (equalNumbers e) _ _ (equal-values x e))
+    (row (e .a)) (row (e .b)) (within (e .a)) (within (e .b))) j

@@ -15,7 +15,8 @@ use Rattle.possible.proofs.sets.image_itself.Tie as tie
 
 -- an operator's image is the digit at the set's mask, of its diagonal
 image : (f : Decision → Decision → Decision) (c : tie.Start) →
-    digit (word {F = decisions} {G = decisions} (imageOne (λ x. f x x))) (c .args .s % 16) ≡ mask decisions (imageOne (λ x. f x x) (ofMask decisions (c .args .s)))
+    digit (word {F = decisions} {G = decisions} (imageOne (λ x. f x x))) (c .args .s % 16) ≡ mask decisions
+    (imageOne (λ x. f x x) (ofMask decisions (c .args .s)))
 image f c = in-word decisions decisions (omega arith) (imageOne (λ x. f x x)) (c .args .s)
 
 returns : tie.Need-returns
