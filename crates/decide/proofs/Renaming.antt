@@ -30,9 +30,11 @@ pub decisions-come : (m : ℕ) → Comes (decides m)
 unfolding decideBy
 decisions-come m new e x y u v p q same = go (e .kind) (e .a) (e .b) p q
   where
-    go : (k : Kind) (a b : ℕ) → (namesRow 0 (record { kind = k; a = a; b = b }) ≡ true → x ≡ u) →
-        (namesRow 1 (record { kind = k; a = a; b = b }) ≡ true → y ≡ v) →
-        decides m (renamed new (record { kind = k; a = a; b = b })) x y ≡ decides m (record { kind = k; a = a; b = b }) u v
+    go : (k : Kind) (a b : ℕ) →
+        let e : Entry = record { kind = k; a = a; b = b } in
+        (namesRow 0 e ≡ true → x ≡ u) →
+        (namesRow 1 e ≡ true → y ≡ v) →
+        decides m (renamed new e) x y ≡ decides m e u v
     go (Row (Always w)) a b p q = refl
     go (Row DenyIf) a b p q = refl
     go (Row GrantIf) a b p q = refl

@@ -4,7 +4,7 @@
 use mathlib.Core.Path.{_≡_, refl, ap, ap₂, _∙_}
 use mathlib.Core.Bool.{true}
 use mathlib.Core.List.{List, [], _∷_, _++_, map, append-assoc}
-use Prim.Native.Nat.{ℕ, zero, suc, _+_, _-_, _≤_, _<_}
+use Prim.Native.Nat.{ℕ, zero, suc, _+_, _≤_, _<_}
 use native.Mathlib.Omega.{arith}
 use native.Mathlib.Numerals.{add-one}
 use lib.ListN.{length, getD, take, drop, set, length-append, length-map, List·getD-append, List·getD-eq-default, List·getD-map}
@@ -110,7 +110,7 @@ module _ {A : Type 0} (f : Entry → A → A → A) (z : A) (code : A → ℕ) (
       ∙ set-at l (getD out₀ i 0) (drop (suc i) out₀) (code w) i coded-length
       ∙ rw (add-one i, map-more code (values f z es i) w, append-assoc l (code w ∷ []) (drop (suc i) out₀))
 
--- an entry's value, where its numbers have these
+-- an entry's value, where number n has the value x n
 abbrev from : {A : Type 0} → (Entry → A → A → A) → Entry → (ℕ → A) → A
 from f e x = f e (x (e .a)) (x (e .b))
 

@@ -1,59 +1,43 @@
--- Each row of an accepted table decides by its kind, from what the rows that it names decide (01, "The table, byte by byte" and "The four decisions").
+-- Each row of an accepted table has its value by its kind, from the values of the rows that it names: what it decides, and its set of decisions where facts
+-- are missing (01, "The table, byte by byte", "The four decisions" and "Missing facts").
 -- Assumes nothing.
-use mathlib.Core.Path.{_≡_, refl, ap, ap₂, subst}
-use mathlib.Core.Bool.{true}
+use mathlib.Core.Path.{_≡_, refl, sym, ap, ap₂, _∙_}
+use mathlib.Core.Bool.{Bool, true, false, cond}
 use mathlib.Core.List.{List}
 use Prim.Native.Nat.{ℕ, _<_}
 use lib.ListN.{length, getD}
-use lib.Dec.{ltb}
-use borrow.Author.Tests.{ltb-true}
-use Rattle.belnap.specs.declared.Decision.{Decision}
-use Rattle.belnap.specs.declared.Decision.the-variants.{U}
-use Rattle.operators.specs.Operators.{one, two}
-use Rattle.belnap.proofs.Finite.{both-parts}
-use Rattle.kinds.specs.declared.RowKind.{RowKind}
-use Rattle.kinds.specs.declared.RowKind.the-variants.{Always, DenyIf, GrantIf, One, Two}
-use Rattle.kinds.specs.declared.Kind.{Kind}
-use Rattle.kinds.specs.declared.Kind.the-variants.{Row}
+use Rattle.entries.specs.declared.Entry.{Entry}
 use Rattle.entries.specs.Said.{answered}
-use Rattle.kinds.specs.Kinds.{asRow}
-use Rattle.entries.specs.Entries.{blank}
-use Rattle.table.specs.Steps.{tally}
-use Rattle.table.specs.Whole.{named}
+use Rattle.entries.specs.Entries.{blank, equalNumbers}
+use Rattle.entries.specs.Renaming.{namesRow, renamed}
 use Rattle.table.specs.Contents.{Contents}
 use Rattle.table.specs.Reading.{reading}
-use Rattle.kinds.proofs.KindTable.{is-row}
 use Rattle.table.proofs.Laws.{row-sound}
+use Rattle.table.proofs.Renaming.{first-below, second-below}
 use Rattle.decide.specs.Rows.{valueAt}
-use Rattle.decide.specs.Meaning.{decideBy, decides, decision}
 use Rattle.decide.proofs.RowByRow.{before-there}
+use Rattle.decide.proofs.Renaming.{Comes}
 
--- what a row decides hangs on what it is told of the rows that it names, which are lower
-pub operands : (k : RowKind) (a b r request : ℕ) (x y u v : Decision) → named (record { kind = Row k; a = a; b = b }) (tally r 0) ≡ true →
-    (a < r → x ≡ u) → (b < r → y ≡ v) →
-    decideBy k a request x y ≡ decideBy k a request u v
-unfolding decideBy
-operands (Always w) a b r request x y u v h p q = refl
-operands DenyIf a b r request x y u v h p q = refl
-operands GrantIf a b r request x y u v h p q = refl
-operands (One op) a b r request x y u v h p q = ap (one op) (p (ltb-true a r (both-parts (ltb a r) true h .0)))
-operands (Two op) a b r request x y u v h p q =
-    let lower = both-parts (ltb a r) (ltb b r) h in
-    ap₂ (two op) (p (ltb-true a r (lower .0))) (q (ltb-true b r (lower .1)))
+-- with every row under its own number, an entry is the same
+same-entry : (e : Entry) → renamed (λ x. x) e ≡ e
+same-entry e = ap₂ (λ (a b : ℕ). record { kind = e .kind; a = a; b = b }) (either (namesRow 0 e) (e .a)) (either (namesRow 1 e) (e .b))
+  where
+    either : (b : Bool) (x : ℕ) → cond b x x ≡ x
+    either true x = refl
+    either false x = refl
 
--- the numbers of a row of an accepted table are below it
-pub row-named : (s : List ℕ) (c : Contents) → reading s ≡ answered c → (r : ℕ) → r < length (c .rows) →
-    let e = getD (c .rows) r blank in named (record { kind = Row (asRow (e .kind)); a = e .a; b = e .b }) (tally r 0) ≡ true
-row-named s c is r there =
-    let e = getD (c .rows) r blank in
-    let sound = row-sound s c is r there in
-    subst (λ (kind : Kind). named (record { kind = kind; a = e .a; b = e .b }) (tally r 0) ≡ true) (is-row (e .kind) (sound .in-part)) (sound .names)
+module _ (s : List ℕ) (c : Contents) (is : reading s ≡ answered c) (r : ℕ) (there : r < length (c .rows)) {A : Type 0} (f : Entry → A → A → A)
+    (comes : Comes f) where
+  abbrev row : Entry
+  row = getD (c .rows) r blank
 
-pub by-rule : (s : List ℕ) (c : Contents) → reading s ≡ answered c → (r request : ℕ) → r < length (c .rows) →
-    let e = getD (c .rows) r blank in
-    decision (c .rows) request r ≡ decideBy (asRow (e .kind)) (e .a) request (decision (c .rows) request (e .a)) (decision (c .rows) request (e .b))
-unfolding valueAt
-by-rule s c is r request there =
-    let e = getD (c .rows) r blank in
-    let below = before-there (decides request) U (c .rows) r in
-    operands (asRow (e .kind)) (e .a) (e .b) r request _ _ _ _ (row-named s c is r there) (below (e .a)) (below (e .b))
+  -- a row's value hangs on those of the rows that it names, which are lower
+  pub by-named : (x y u v : A) → (row .a < r → x ≡ u) → (row .b < r → y ≡ v) → f row x y ≡ f row u v
+  by-named x y u v p q =
+      let sound = row-sound s c is r there in
+      ap (λ (e : Entry). f e x y) (sym (same-entry row))
+      ∙ comes (λ x. x) row x y u v (λ t. p (first-below row sound t)) (λ t. q (second-below row sound t)) (λ t k. ap equalNumbers (same-entry row))
+
+  pub by-rule : (z : A) → valueAt f z (c .rows) r ≡ f row (valueAt f z (c .rows) (row .a)) (valueAt f z (c .rows) (row .b))
+  unfolding valueAt
+  by-rule z = by-named _ _ _ _ (before-there f z (c .rows) r (row .a)) (before-there f z (c .rows) r (row .b))

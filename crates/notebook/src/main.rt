@@ -1,5 +1,5 @@
 // Runs every case of the old desk's notebook (01) that is not marked P, through the services, and prints each with what came back;
-// then tables with a number that is not below its limit (02, L1), and those of a row against itself (02, L3); then takes rows out of
+// then tables with a number that is not below its limit (02, L1), and cases of a row against itself (by 02's L3); then takes rows out of
 // tables, each as a part of the table, or with the companion's refusal.
 use libc::STDOUT_FILENO;
 

@@ -8,7 +8,7 @@ use Prim.Native.Nat.{ℕ, _≤_, _<_}
 use native.Mathlib.Omega.{arith}
 use lib.Dec.{ltb}
 use lib.ListN.{length, getD}
-use borrow.Author.Tests.{ltb-true}
+use borrow.Author.Tests.{ltb-true, eq-eqb}
 use Rattle.belnap.specs.declared.Decision.{Decision}
 use Rattle.belnap.specs.declared.orders.Order.{Order}
 use Rattle.belnap.specs.Decisions.{code}
@@ -30,22 +30,19 @@ use Rattle.table.specs.Whole.{named}
 use Rattle.table.specs.Reading.{reading}
 use Rattle.table.proofs.Laws.{covered, question-sound}
 use Rattle.decide.specs.Meaning.{bit}
-use Rattle.decide.proofs.Rules.{row-named}
 use Rattle.possible.specs.Sets.{decisions, imageOne, mask, ofMask}
 use Rattle.possible.specs.Twice.{possibleTwice}
-use Rattle.possible.specs.Possible.{possible}
-use Rattle.possible.proofs.Itself.{itself-set}
-use Rattle.possible.proofs.Masks.{of-mask}
+use Rattle.possible.specs.Possible.{setBy}
+use Rattle.possible.proofs.Images.{two-itself}
 use Rattle.possible.proofs.Twice.{within-twice}
 use Rattle.walk.specs.declared.Reply.the-variants.{Holds}
 use Rattle.walk.specs.Walk.{Visit, replyOf}
 use Rattle.walk.proofs.Itself.{itself-holds as itself-walked, both-walked}
 use Rattle.walk.proofs.Twice.{no-longer}
-use Rattle.pierstride.specs.declared.Remaining.{Remaining}
 use Rattle.pierstride.specs.Services.{unfinished, repliedOf, possibleAnswer, verdictAnswer}
 use Rattle.pierstride.specs.Demands.{needed, neededTwice}
-use Rattle.pierstride.proofs.Answered.{remained, remains, replies}
-use Rattle.pierstride.proofs.ThirdDemand.{unfinished-means, verdict-counts, set-has}
+use Rattle.pierstride.proofs.Answered.{replies}
+use Rattle.pierstride.proofs.ThirdDemand.{unfinished-means, verdict-counts, possible-by-rule, set-has}
 
 module _ (s : List ℕ) (c : Contents) (is : reading s ≡ answered c) where
   abbrev row : ℕ → Entry
@@ -59,14 +56,10 @@ module _ (s : List ℕ) (c : Contents) (is : reading s ≡ answered c) where
       possibleAnswer s r known request .refusal ≡ 0 →
       possibleAnswer s r known request .set ≡
       mask decisions (imageOne (λ x. two op x x) (ofMask decisions (possibleAnswer s (row r .b) known request .set)))
+  unfolding setBy
   possible-itself r known request op k same told =
-      let d = remained s c is r known request told in
-      let lower = ltb-true (row r .b) r (both-parts (ltb (row r .a) r) (ltb (row r .b) r) (rw k at (row-named s c is r (d .0 .there))) .1) in
-      let there = remains s c is (row r .b) known request (omega (arith, d .0 .there)) (d .0 .good) in
-      let set = possible (c .rows) known request (row r .b) in
-      ap (λ (a : Remaining). a .set) (d .1)
-      ∙ ap (mask decisions) (itself-set (c .rows) known request r op k same lower
-      ∙ ap (imageOne (λ x. two op x x)) (sym (ap (λ (a : Remaining). ofMask decisions (a .set)) there ∙ of-mask decisions set)))
+      possible-by-rule s c is r known request told
+      ∙ ap (mask decisions) (rw (k, eq-eqb (row r .a) (row r .b) same) (two-itself decisions (two op) _ _))
 
   -- "The survey desk asked whether row 7 is at or below row 7": it holds, after the visit at the root
   pub itself-holds : (q b : ℕ) (o : Order) → asQuestion (question q .kind) ≡ Compare o → question q .a ≡ question q .b → q < length (c .questions) → 0 < b →

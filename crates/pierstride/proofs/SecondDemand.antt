@@ -12,6 +12,7 @@ use lib.ListN.{length, getD, take, drop}
 use lib.Dec.{leb}
 use borrow.Author.Tests.{lt-leb, le-leb}
 use Rattle.belnap.specs.declared.Decision.{Decision}
+use Rattle.belnap.specs.declared.Decision.the-variants.{U}
 use Rattle.belnap.specs.Decisions.{code, coded}
 use Rattle.belnap.proofs.Codes.{coded-code}
 use Rattle.belnap.proofs.Finite.{never}
@@ -24,11 +25,12 @@ use Rattle.entries.proofs.Numbers.{by-order}
 use Rattle.table.proofs.Laws.{covered}
 use Rattle.table.specs.Whole.{Whole}
 use Rattle.table.proofs.Writing.{of-accepted}
-use Rattle.decide.specs.Meaning.{decideBy, decision}
+use Rattle.decide.specs.Meaning.{decideBy, decides as decides-by, decision}
 use Rattle.decide.specs.Reach.{reaches}
 use Rattle.decide.specs.Requests.{Agree}
 use Rattle.decide.proofs.Independence.{independent}
-use Rattle.decide.proofs.Rules.{row-named, operands, by-rule}
+use Rattle.decide.proofs.Rules.{by-named, by-rule}
+use Rattle.decide.proofs.Renaming.{decisions-come}
 use Rattle.walk.specs.declared.Reply.the-variants.{Holds, Fails, Unfinished}
 use Rattle.walk.specs.Order.{comesBefore}
 use Rattle.walk.specs.Walk.{Visit, found, ended, replyOf}
@@ -54,15 +56,14 @@ pub decide-by-rule : (s : List ℕ) (c : Contents) → reading s ≡ answered c 
     decideAnswer s r request .code ≡
     code (decideBy (asRow (e .kind)) (e .a) request (coded (decideAnswer s (e .a) request .code)) (coded (decideAnswer s (e .b) request .code)))
 decide-by-rule s c is r request told =
-    let e = getD (c .rows) r blank in
     let d = decided s c is r request told in
     let lower : (x : ℕ) → x < r → decision (c .rows) request x ≡ coded (decideAnswer s x request .code) =
     λ x h.
     let lower = decides s c is x request (omega (arith, d .0 .there)) (d .0 .good) in
     sym (ap (λ (a : Decided). coded (a .code)) lower ∙ coded-code (decision (c .rows) request x)) in
     ap (λ (a : Decided). a .code) (d .1)
-    ∙ ap code (by-rule s c is r request (d .0 .there)
-    ∙ operands (asRow (e .kind)) (e .a) (e .b) r request _ _ _ _ (row-named s c is r (d .0 .there)) (lower (e .a)) (lower (e .b)))
+    ∙ ap code (by-rule s c is r (d .0 .there) (decides-by request) (decisions-come request) U
+    ∙ by-named s c is r (d .0 .there) (decides-by request) (decisions-come request) _ _ _ _ (lower _) (lower _))
 
 -- "Two requests that agree on every predicate that a row reaches … get the same decision from it"
 pub decide-independent : (s : List ℕ) (c : Contents) → reading s ≡ answered c → (r m o : ℕ) → Agree (reaches (c .rows) r) m o →

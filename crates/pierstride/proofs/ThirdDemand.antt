@@ -8,12 +8,15 @@ use mathlib.Core.List.{List}
 use Prim.Native.Nat.{ℕ, zero, suc, _+_, _-_, _^_, _≤_, _<_}
 use native.Mathlib.Omega.{arith}
 use native.Mathlib.Numerals.{add-one}
-use lib.ListN.{length}
+use lib.ListN.{length, getD}
 use lib.Dec.{leb}
 use Rattle.belnap.specs.declared.Decision.{Decision}
+use Rattle.belnap.specs.declared.Decision.the-variants.{U}
 use Rattle.belnap.specs.Decisions.{code, coded}
 use Rattle.belnap.proofs.Codes.{code-coded}
 use Rattle.belnap.proofs.Finite.{never}
+use Rattle.kinds.specs.Kinds.{asRow}
+use Rattle.entries.specs.Entries.{blank, equalNumbers}
 use Rattle.entries.specs.Said.{Said, answered, refusing, andThen, unless}
 use Rattle.table.specs.Steps.{predicateLimit}
 use Rattle.table.specs.Contents.{Contents, predicates}
@@ -22,9 +25,11 @@ use Rattle.table.proofs.Laws.{covered}
 use Rattle.entries.proofs.Numbers.{by-order}
 use Rattle.decide.specs.Meaning.{bit, decision}
 use Rattle.decide.specs.Requests.{Fills, Learns, AllKnown}
-use Rattle.possible.specs.Sets.{decisions, mask}
-use Rattle.possible.specs.Possible.{possible}
-use Rattle.possible.proofs.Masks.{mask-below, member-bit, single-mask}
+use Rattle.decide.proofs.Rules.{by-named, by-rule}
+use Rattle.possible.specs.Sets.{decisions, single, mask, ofMask}
+use Rattle.possible.specs.Possible.{setBy, setOf, possible}
+use Rattle.possible.proofs.Masks.{of-mask, mask-below, member-bit, single-mask}
+use Rattle.possible.proofs.Renaming.{sets-come}
 use Rattle.possible.proofs.Filling.{filling-member, learning-adds-none, known-exact}
 use Rattle.walk.specs.declared.Reply.{Reply}
 use Rattle.walk.specs.Walk.{Visit, sees, replyOf}
@@ -37,7 +42,7 @@ use Rattle.pierstride.specs.Masks.{beyond, knownBelow}
 use Rattle.pierstride.specs.Services.{askedWrongly, unfinished, repliedOf, verdictOf, walkOf}
 use Rattle.pierstride.specs.Services.{readAnswer, decideAnswer, saysPossible, possibleAnswer, saysVerdict, verdictAnswer}
 use Rattle.pierstride.specs.Demands.{needed}
-use Rattle.pierstride.proofs.Answered.{table-of, decided, decides, remained, replies}
+use Rattle.pierstride.proofs.Answered.{table-of, decided, decides, remained, remains, replies}
 use Rattle.pierstride.proofs.FirstDemand.{possible-tells}
 use Rattle.pierstride.proofs.SecondDemand.{by-reply, unlike}
 
@@ -95,6 +100,21 @@ module _ (s : List ℕ) (c : Contents) (is : reading s ≡ answered c) (q b : �
       let m : readAnswer s .predicates ≡ n = rw is in
       let few : 2 ^ suc n - 1 ≤ b = rw (m, add-one n) at l in
       omega (arith, walk-bound (sees (c .rows) (c .questions) q) n, unfinished-means e .0, few)
+
+-- a row's set is that of its kind's rule, over the sets that the same call answers for the rows that it names
+pub possible-by-rule : (s : List ℕ) (c : Contents) → reading s ≡ answered c → (r known request : ℕ) → possibleAnswer s r known request .refusal ≡ 0 →
+    let e = getD (c .rows) r blank in
+    possibleAnswer s r known request .set ≡ mask decisions (setBy (asRow (e .kind)) (e .a) (equalNumbers e) known request
+    (ofMask decisions (possibleAnswer s (e .a) known request .set)) (ofMask decisions (possibleAnswer s (e .b) known request .set)))
+possible-by-rule s c is r known request told =
+    let d = remained s c is r known request told in
+    let lower : (x : ℕ) → x < r → possible (c .rows) known request x ≡ ofMask decisions (possibleAnswer s x known request .set) =
+    λ x h.
+    let lower = remains s c is x known request (omega (arith, d .0 .there)) (d .0 .good) in
+    sym (ap (λ (a : Remaining). ofMask decisions (a .set)) lower ∙ of-mask decisions (possible (c .rows) known request x)) in
+    ap (λ (a : Remaining). a .set) (d .1)
+    ∙ ap (mask decisions) (by-rule s c is r (d .0 .there) (setOf known request) (sets-come known request) (single U)
+    ∙ by-named s c is r (d .0 .there) (setOf known request) (sets-come known request) _ _ _ _ (lower _) (lower _))
 
 -- the set of a row, and its members: a decision counts two to the power of its code
 module _ (s : List ℕ) (r known request : ℕ) (left : possibleAnswer s r known request .refusal ≡ 0) where

@@ -79,7 +79,7 @@ choosing-within : {F G : Finite} (s t : Set F) (f g : F .Member → Set G) → W
     Within (choosing s f) (choosing t g)
 choosing-within s t f g a b v e = choosing-from s f v e (λ x m r. choosing-has t g x v (a x m) (b x m v r))
 
--- one choice for both where there were two is no other choice, if both sets are one: `equal` and `other` say whether one choice serves both
+-- `equal` allows no choice that `other` does not: one choice serves both wherever it does by `other`; and where it does by `equal` alone, both sets are one
 abbrev pub Fewer : {F : Finite} → Bool → Bool → Set F → Set F → Type 0
 Fewer equal other s t = (other ≡ true → equal ≡ true) × (equal ≡ true → other ≡ false → s ≡ t)
 

@@ -5,7 +5,6 @@ pub mod Masks
 pub mod Words
 pub mod SetLoop
 pub mod Filling
-pub mod Itself
 pub mod Twice
 pub mod Notebook
 pub mod Unique

@@ -1,4 +1,4 @@
--- The cases that 01's notebook marks P, and 02's of a row against itself, as one table under one claim about the definitions.
+-- The cases that 01's notebook marks P, and two of a row against itself, as one table under one claim about the definitions.
 -- Assumes nothing.
 use Prim.Native.Nat.{ℕ}
 use mathlib.Core.Bool.{cond}
@@ -47,7 +47,7 @@ cases =
     -- "`11 00 01 34 00 01`, row 2, nothing known: the set is 6 (d and g)"
     record { brought = remaining (reading (0x11 ∷ 0x00 ∷ 0x01 ∷ 0x34 ∷ 0x00 ∷ 0x01 ∷ [])) 2; stated = members (ofMask decisions 6) } ∷
     record { brought = members (ofMask decisions 6); stated = D ∷ G ∷ [] } ∷
-    -- 02, L3: `11 00 34 00 00`, row 1, nothing known: the set is 4; `11 00 11 00 34 00 01`, row 2, two rows of the same content: still 5
+    -- by 02's L3: `11 00 34 00 00`, row 1, nothing known: the set is 4; `11 00 11 00 34 00 01`, row 2, of two rows that say the same: 5
     record { brought = remaining (reading (0x11 ∷ 0x00 ∷ 0x34 ∷ 0x00 ∷ 0x00 ∷ [])) 1; stated = members (ofMask decisions 4) } ∷
     record { brought = remaining (reading (0x11 ∷ 0x00 ∷ 0x11 ∷ 0x00 ∷ 0x34 ∷ 0x00 ∷ 0x01 ∷ [])) 2; stated = members (ofMask decisions 5) } ∷ []
 

@@ -16,15 +16,17 @@ use Rattle.decide.proofs.Renaming.{Comes, Renames, value-kept}
 use Rattle.possible.specs.Sets.{single, imageOne}
 use Rattle.possible.specs.Possible.{setBy, setOf, possible}
 
-sets-come : (known request : ℕ) → Comes (setOf known request)
+pub sets-come : (known request : ℕ) → Comes (setOf known request)
 unfolding setBy
 sets-come known request new e x y u v p q same = go (e .kind) (e .a) (e .b) p q same
   where
-    go : (k : Kind) (a b : ℕ) → (namesRow 0 (record { kind = k; a = a; b = b }) ≡ true → x ≡ u) →
-        (namesRow 1 (record { kind = k; a = a; b = b }) ≡ true → y ≡ v) →
-        (namesRow 0 (record { kind = k; a = a; b = b }) ≡ true → namesRow 1 (record { kind = k; a = a; b = b }) ≡ true →
-        equalNumbers (renamed new (record { kind = k; a = a; b = b })) ≡ equalNumbers (record { kind = k; a = a; b = b })) →
-        setOf known request (renamed new (record { kind = k; a = a; b = b })) x y ≡ setOf known request (record { kind = k; a = a; b = b }) u v
+    go : (k : Kind) (a b : ℕ) →
+        let e : Entry = record { kind = k; a = a; b = b } in
+        (namesRow 0 e ≡ true → x ≡ u) →
+        (namesRow 1 e ≡ true → y ≡ v) →
+        (namesRow 0 e ≡ true → namesRow 1 e ≡ true →
+        equalNumbers (renamed new e) ≡ equalNumbers e) →
+        setOf known request (renamed new e) x y ≡ setOf known request e u v
     go (Row (Always w)) a b p q same = refl
     go (Row DenyIf) a b p q same = refl
     go (Row GrantIf) a b p q same = refl

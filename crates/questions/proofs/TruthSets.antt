@@ -42,7 +42,7 @@ filling-truth rows questions known request o j h =
     question-has (asQuestion (e .kind)) (equalNumbers e) _ _ _ _ _ _ _ _ (member (e .a)) (member (e .b)) (has (e .a)) (has (e .b))
     (equal-values (decision rows o) e) (equal-values x e)) j
 
--- learning a fact adds none
+-- fewer facts missing, and one choice in the place of two, add none
 pub question-within : (k : QuestionKind) (equal other : Bool) (s t u v : Set decisions) (x y p q : Set truths) →
     Fewer equal other s t → Fewer equal other x y → Within s u → Within t v → Within x p → Within y q →
     Within (truthSetBy k equal s t x y) (truthSetBy k other u v p q)

@@ -19,7 +19,7 @@ fn compare_set(order: Order, equal: bool, s: u8, t: u8) -> u8
     ensures { λ r. ⌜ r ≡ mask truths (imageTwo (atOrBelow order) equal (ofMask decisions s) (ofMask decisions t)) ⌝ }
 {
     if equal {
-        return possible::sets::digit(tables::ITSELF, t);
+        return possible::sets::digit(tables::ORDER_OF_ITSELF, t);
     }
     let i = (s % 16) as usize;
     match order {

@@ -39,7 +39,7 @@ pub const KNOWLEDGE_ORDER: [u64; 16] = [
     0x3333333133333330,
 ];
 
-pub const ITSELF: u64 = 0x1111111111111110;
+pub const ORDER_OF_ITSELF: u64 = 0x1111111111111110; // of either order: a row is at or below itself
 
 pub const NOT: u64 = 0x3120;
 

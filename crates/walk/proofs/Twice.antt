@@ -23,7 +23,7 @@ use Rattle.walk.specs.Twice.{seesTwice, walkTwice}
 use Rattle.walk.proofs.Looks.{settled-within}
 use Rattle.walk.proofs.Budgets.{below-bound}
 use Rattle.walk.proofs.Answers.{OnlyKnown, Begun, unknown, unsaid, begun-no, begun-yes, begun-all, less-no, less-yes, found-else, nothing-hit}
-use Rattle.walk.proofs.Answers.{breaks, nowhere, there, settled-at-n}
+use Rattle.walk.proofs.Answers.{breaks, nowhere as breaks-nowhere, there as breaks-there, settled-at-n}
 
 -- one look is settled wherever the other is, and alike
 abbrev Sharper : Look → Look → Type 0
@@ -96,5 +96,5 @@ module _ (rows questions : List Entry) (n : ℕ) (covers : Covers n rows) (j : �
 
   pub no-longer : length (walk rows questions n j) ≤ length (walkTwice rows questions n j)
   no-longer =
-      fewer-visits (sees rows questions j) (seesTwice rows questions j) (breaks rows questions n covers j) (2 ^ n - 1) (nowhere rows questions n covers j)
-      (there rows questions n covers j) (settled-at-n rows questions n covers j) sharper (predicatesFrom 0 n) 0 0 (begun-all n)
+      fewer-visits (sees rows questions j) (seesTwice rows questions j) (breaks rows questions n covers j) (2 ^ n - 1) (breaks-nowhere rows questions n covers j)
+      (breaks-there rows questions n covers j) (settled-at-n rows questions n covers j) sharper (predicatesFrom 0 n) 0 0 (begun-all n)

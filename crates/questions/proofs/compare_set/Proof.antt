@@ -4,25 +4,32 @@ use Rattle.belnap.specs.declared.orders.Order.the-variants.{Truth, Knowledge}
 use Rattle.belnap.specs.Orders.{atOrBelow}
 use Rattle.decide.specs.Meaning.{bit}
 use Rattle.possible.specs.Sets.{decisions, truths, Set, choosing, imageOne, imageTwo, mask, ofMask}
-use Rattle.possible.proofs.Words.{digit, in-word, in-words}
+use Rattle.possible.proofs.Words.{digit, word, in-word, in-words}
 use native.Mathlib.Omega.{arith}
-use mathlib.Core.Path.{_≡_, _∙_}
+use mathlib.Core.Path.{_≡_, refl, ap, _∙_}
 use mathlib.Core.Bool.{true, false}
 use Prim.Native.Nat.{ℕ, _%_}
 use borrow.Author.Needs.{needs}
 use Rattle.questions.proofs.compare_set.Statement.{statement}
 use Rattle.questions.proofs.compare_set.Tie as tie
 
--- the diagonal is that of either order
-itself : (o : Order) (s : Set decisions) (t : ℕ) → digit 0x1111111111111110 (t % 16) ≡ mask truths (imageTwo (atOrBelow o) true s (ofMask decisions t))
+-- both orders have one diagonal
+abbrev diagonal : Order → Set decisions → ℕ
+diagonal o s = word {F = decisions} {G = truths} (imageTwo (atOrBelow o) true s)
+
+one-diagonal : (o : Order) (s : Set decisions) → diagonal Truth s ≡ diagonal o s
 unfolding mask ofMask bit choosing imageOne imageTwo
-itself Truth s t = in-word decisions truths (omega arith) (imageTwo (atOrBelow Truth) true s) t
-itself Knowledge s t = in-word decisions truths (omega arith) (imageTwo (atOrBelow Knowledge) true s) t
+one-diagonal Truth s = refl
+one-diagonal Knowledge s = refl
 
 returns : tie.Need-returns
+unfolding mask ofMask bit choosing imageOne imageTwo
 returns c =
     let a = c .before .before .args in
-    rw (c .before .if1 .taken) (c .digit .ensures ∙ itself (a .order) (ofMask decisions (a .s)) (a .t))
+    let s = ofMask decisions (a .s) in
+    rw (c .before .if1 .taken)
+    (c .digit .ensures ∙ ap (λ (w : ℕ). digit w (a .t % 16)) (one-diagonal (a .order) s)
+    ∙ in-word decisions truths (omega arith) (imageTwo (atOrBelow (a .order)) true s) (a .t))
 
 returns-2 : tie.Need-returns-2
 unfolding mask ofMask bit choosing imageOne imageTwo
