@@ -35,7 +35,9 @@ fn main() {
     println!();
     println!("rows  bytes  call             library ns      Rust ns  library/Rust");
     for rows in [16, 64, ROWS] {
-        time_calls(rows, &table(rows));
+        let table = table(rows);
+        time_calls(rows, &table);
+        time_calls_that_write(rows, &table);
     }
     println!();
     println!("A text with more lines than a table may have is read to its end before it is");
@@ -68,22 +70,21 @@ fn table(rows: usize) -> Vec<u8> {
     bytes
 }
 
+/// One line for a call on a table: the library's time, the oracle's, and their ratio.
+fn reporter(rows: usize, table: &[u8]) -> impl Fn(&str, f64, f64) {
+    let bytes = table.len();
+    move |call, library, oracle| {
+        println!(
+            "{rows:>4}  {bytes:>5}  {call:<14}  {library:>11.1}  {oracle:>11.1}  {:>12.2}",
+            library / oracle
+        );
+    }
+}
+
 fn time_calls(rows: usize, table: &[u8]) {
     let row = (rows - LAST_ROWS) as u32 - 1;
     let (known, yes) = (KNOWN, KNOWN & YES);
-    let text = texts::spelling(table);
-    let (mut out, mut oracle_out) = (vec![0; text.len()], vec![0; text.len()]);
-    let struck = (0..rows as u32)
-        .find(|&row| pierstride_oracle::strike(table, row, &mut out).is_ok())
-        .expect("a row that no entry names");
-    let report = |call, library, oracle| {
-        println!(
-            "{rows:>4}  {:>5}  {call:<14}  {library:>11.1}  {oracle:>11.1}  {:>12.2}",
-            table.len(),
-            library / oracle
-        );
-    };
-
+    let report = reporter(rows, table);
     report(
         "read",
         time(|| pierstride::read(hide(table))),
@@ -107,6 +108,15 @@ fn time_calls(rows: usize, table: &[u8]) {
         time(|| pierstride::verdict(hide(table), 0, VISITS)) / f64::from(VISITS),
         time(|| pierstride_oracle::verdict(hide(table), 0, VISITS)) / f64::from(VISITS),
     );
+}
+
+fn time_calls_that_write(rows: usize, table: &[u8]) {
+    let text = texts::spelling(table);
+    let (mut out, mut oracle_out) = (vec![0; text.len()], vec![0; text.len()]);
+    let struck = (0..rows as u32)
+        .find(|&row| pierstride_oracle::strike(table, row, &mut out).is_ok())
+        .expect("a row that no entry names");
+    let report = reporter(rows, table);
     report(
         "strike",
         time(|| pierstride::strike(hide(table), struck, hide(&mut out))),

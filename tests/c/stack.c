@@ -157,7 +157,7 @@ static table longest(unsigned asked)
     return table;
 }
 
-/* The table with the longest text: the longest words, and the highest numbers. */
+/* The table with the longest text: the longest words, and the highest numbers. Its walks end at the root. */
 static table wordiest(void)
 {
     table table = {{0x11, 23}, 2};

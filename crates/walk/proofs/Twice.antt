@@ -96,5 +96,6 @@ module _ (rows questions : List Entry) (n : ℕ) (covers : Covers n rows) (j : �
 
   pub no-longer : length (walk rows questions n j) ≤ length (walkTwice rows questions n j)
   no-longer =
-      fewer-visits (sees rows questions j) (seesTwice rows questions j) (breaks rows questions n covers j) (2 ^ n - 1) (breaks-nowhere rows questions n covers j)
-      (breaks-there rows questions n covers j) (settled-at-n rows questions n covers j) sharper (predicatesFrom 0 n) 0 0 (begun-all n)
+      fewer-visits (sees rows questions j) (seesTwice rows questions j) (breaks rows questions n covers j) (2 ^ n - 1)
+      (breaks-nowhere rows questions n covers j) (breaks-there rows questions n covers j) (settled-at-n rows questions n covers j) sharper
+      (predicatesFrom 0 n) 0 0 (begun-all n)

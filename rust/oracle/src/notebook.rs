@@ -1,6 +1,6 @@
 //! The cases of document 01, "From the old desk's notebook", with the places that
-//! document 02, L1, gives to refusals 3 and 4, the examples of L3, and a few beside
-//! them of the same kind.
+//! document 02, L1, gives to refusals 3 and 4, cases of a row against itself (L3), and
+//! a few beside them of the same kind.
 
 use crate::call::{Answer, Call, Case};
 use crate::{Refusal, Verdict};

@@ -38,7 +38,6 @@ pub const EMPTY: Shape = Shape {
 };
 
 /// Tables small enough to try every request.
-#[rustfmt::skip]
 pub const SMALL: Shape =
     Shape { rows: 1..=12, questions: 1..=6, predicates: 0..=8, leaves: 40, repeats: 40, ..EMPTY };
 
@@ -48,7 +47,6 @@ pub const SMALL_WITH_SETS: Shape =
     Shape { rows: 28..=36, questions: 1..=6, predicates: 1..=4, leaves: 15, repeats: 70, every_set: 100, ..EMPTY };
 
 /// Tables to walk in full, though they are too large to try every request.
-#[rustfmt::skip]
 pub const WALKED: Shape =
     Shape { rows: 10..=24, questions: 1..=3, predicates: 9..=12, repeats: 20, ..EMPTY };
 
