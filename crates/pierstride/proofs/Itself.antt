@@ -62,8 +62,8 @@ module _ (s : List ℕ) (c : Contents) (is : reading s ≡ answered c) where
       ∙ ap (mask decisions) (rw (k, eq-eqb (row r .a) (row r .b) same) (two-itself decisions (two op) _ _))
 
   -- "The survey desk asked whether row 7 is at or below row 7": it holds, after the visit at the root
-  pub itself-holds : (q b : ℕ) (o : Order) → asQuestion (question q .kind) ≡ Compare o → question q .a ≡ question q .b → q < length (c .questions) → 0 < b →
-      verdictAnswer s q b ≡ repliedOf (Holds 1)
+  pub itself-holds : (q b : ℕ) (o : Order) → asQuestion (question q .kind) ≡ Compare o → question q .a ≡ question q .b →
+      q < length (c .questions) → 0 < b → verdictAnswer s q b ≡ repliedOf (Holds 1)
   itself-holds q b o k same there enough =
       replies s c is q b there ∙ ap repliedOf (itself-walked (c .rows) (c .questions) (predicates c) q o k same b enough)
 

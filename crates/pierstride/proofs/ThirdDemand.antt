@@ -102,7 +102,8 @@ module _ (s : List ℕ) (c : Contents) (is : reading s ≡ answered c) (q b : �
       omega (arith, walk-bound (sees (c .rows) (c .questions) q) n, unfinished-means e .0, few)
 
 -- a row's set is that of its kind's rule, over the sets that the same call answers for the rows that it names
-pub possible-by-rule : (s : List ℕ) (c : Contents) → reading s ≡ answered c → (r known request : ℕ) → possibleAnswer s r known request .refusal ≡ 0 →
+pub possible-by-rule : (s : List ℕ) (c : Contents) → reading s ≡ answered c → (r known request : ℕ) →
+    possibleAnswer s r known request .refusal ≡ 0 →
     let e = getD (c .rows) r blank in
     possibleAnswer s r known request .set ≡ mask decisions (setBy (asRow (e .kind)) (e .a) (equalNumbers e) known request
     (ofMask decisions (possibleAnswer s (e .a) known request .set)) (ofMask decisions (possibleAnswer s (e .b) known request .set)))

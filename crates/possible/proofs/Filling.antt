@@ -44,8 +44,8 @@ fact-has v p known request o h = go (bit known p) refl
     go true e = rw (h p e) (single-has decisions (cond (bit request p) v U))
     go false e = either-way v (bit o p) (cond (bit o p) v U) (single-has decisions (cond (bit o p) v U))
 
-row-has : (k : RowKind) (a : ℕ) (equal : Bool) (known request o : ℕ) → Fills known request o → (x y : Decision) (s t : Set decisions) → s .has x ≡ true →
-    t .has y ≡ true → (equal ≡ true → x ≡ y) → setBy k a equal known request s t .has (decideBy k a o x y) ≡ true
+row-has : (k : RowKind) (a : ℕ) (equal : Bool) (known request o : ℕ) → Fills known request o → (x y : Decision) (s t : Set decisions) →
+    s .has x ≡ true → t .has y ≡ true → (equal ≡ true → x ≡ y) → setBy k a equal known request s t .has (decideBy k a o x y) ≡ true
 unfolding setBy decideBy
 row-has (Always v) a equal known request o h x y s t p q e = single-has decisions v
 row-has DenyIf a equal known request o h x y s t p q e = fact-has D a known request o h
@@ -74,8 +74,9 @@ fact-within v p known request more then h = go (bit known p) refl (bit more p) r
     go false e true d = either-way v (bit then p)
     go false e false d = λ x q. q
 
-pub row-within : (k : RowKind) (a : ℕ) (equal other : Bool) (known request more then : ℕ) → Learns known request more then → (s t u v : Set decisions) →
-    Fewer equal other s t → Within s u → Within t v → Within (setBy k a equal more then s t) (setBy k a other known request u v)
+pub row-within : (k : RowKind) (a : ℕ) (equal other : Bool) (known request more then : ℕ) → Learns known request more then →
+    (s t u v : Set decisions) → Fewer equal other s t → Within s u → Within t v →
+    Within (setBy k a equal more then s t) (setBy k a other known request u v)
 unfolding setBy
 row-within (Always w) a equal other known request more then h s t u v few p q = λ x e. e
 row-within DenyIf a equal other known request more then h s t u v few p q = fact-within D a known request more then h

@@ -126,7 +126,8 @@ module _ {F : Finite} (G : Finite) where
   one-from f s v e k = choosing-from s (λ x. single (f x)) v e (λ x a r. k x a (single-is G (f x) v r))
 
   pub two-from : {P : Type 0} (f : F .Member → F .Member → G .Member) (equal : Bool) (s t : Set F) (v : G .Member) →
-      imageTwo {G = G} f equal s t .has v ≡ true → ((x y : F .Member) → choices equal s y .has x ≡ true → t .has y ≡ true → f x y ≡ v → P) → P
+      imageTwo {G = G} f equal s t .has v ≡ true →
+      ((x y : F .Member) → choices equal s y .has x ≡ true → t .has y ≡ true → f x y ≡ v → P) → P
   unfolding imageTwo
   two-from f equal s t v e k =
       choosing-from t (λ y. imageOne (λ x. f x y) (choices equal s y)) v e
@@ -137,8 +138,8 @@ module _ {F : Finite} (G : Finite) where
   unfolding imageOne
   one-within f s t a = choosing-within s t (λ x. single (f x)) (λ x. single (f x)) a (λ x m v e. e)
 
-  pub two-within : (f : F .Member → F .Member → G .Member) (equal other : Bool) (s t p q : Set F) → Fewer equal other s t → Within s p → Within t q →
-      Within (imageTwo {G = G} f equal s t) (imageTwo f other p q)
+  pub two-within : (f : F .Member → F .Member → G .Member) (equal other : Bool) (s t p q : Set F) → Fewer equal other s t →
+      Within s p → Within t q → Within (imageTwo {G = G} f equal s t) (imageTwo f other p q)
   unfolding imageTwo
   two-within f equal other s t p q few a b =
       choosing-within t q (λ y. imageOne (λ x. f x y) (choices equal s y)) (λ y. imageOne (λ x. f x y) (choices other p y)) b
@@ -157,7 +158,8 @@ two-single F G f equal x y e =
     ∙ ap (imageOne (λ x. f x y)) (choice-single equal x y e) ∙ one-single F G (λ x. f x y) x
 
 -- one choice that serves both is one choice
-pub two-itself : {F : Finite} (G : Finite) (f : F .Member → F .Member → G .Member) (s t : Set F) → imageTwo {G = G} f true s t ≡ imageOne (λ x. f x x) t
+pub two-itself : {F : Finite} (G : Finite) (f : F .Member → F .Member → G .Member) (s t : Set F) →
+    imageTwo {G = G} f true s t ≡ imageOne (λ x. f x x) t
 unfolding imageOne imageTwo
 two-itself {F} G f s t = ap (choosing t) (fun-ext (λ y. one-single F G (λ x. f x y) y))
 

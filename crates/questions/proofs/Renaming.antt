@@ -82,8 +82,8 @@ pub record Follows (new : ℕ → ℕ) (Kept : ℕ → Type 0) (questions fresh 
   pub second : (j : ℕ) → namesRow 1 (getD questions j blank) ≡ true → Kept (getD questions j blank .b)
 
 -- a question's numbers are equal afterwards exactly if they were before
-equal-asked : {new : ℕ → ℕ} {Kept : ℕ → Type 0} {questions fresh : List Entry} → OneToOne new Kept → Follows new Kept questions fresh → (j : ℕ) →
-    equalNumbers (renamed new (getD questions j blank)) ≡ equalNumbers (getD questions j blank)
+equal-asked : {new : ℕ → ℕ} {Kept : ℕ → Type 0} {questions fresh : List Entry} → OneToOne new Kept → Follows new Kept questions fresh →
+    (j : ℕ) → equalNumbers (renamed new (getD questions j blank)) ≡ equalNumbers (getD questions j blank)
 equal-asked {new} {questions = questions} apart w j = go (compares (asQuestion (e .kind))) refl
   where
     e : Entry
@@ -94,8 +94,8 @@ equal-asked {new} {questions = questions} apart w j = go (compares (asQuestion (
     go false c = let n = numbers-stay new e (w .asked j) c in ap₂ eqb (n .0) (n .1)
 
 -- every question has the value it had, if the rows have theirs
-module _ {new : ℕ → ℕ} {Kept : ℕ → Type 0} {questions fresh : List Entry} (apart : OneToOne new Kept) (w : Follows new Kept questions fresh) {A B : Type 0}
-    (f : QuestionKind → Bool → B → B → A → A → A) (z : A) (answers : Answers f) (g h : ℕ → B)
+module _ {new : ℕ → ℕ} {Kept : ℕ → Type 0} {questions fresh : List Entry} (apart : OneToOne new Kept) (w : Follows new Kept questions fresh)
+    {A B : Type 0} (f : QuestionKind → Bool → B → B → A → A → A) (z : A) (answers : Answers f) (g h : ℕ → B)
     (rows-kept : (x : ℕ) → Kept x → g (new x) ≡ h x) where
   abbrev after : Entry → A → A → A
   after e x y = f (asQuestion (e .kind)) (equalNumbers e) (g (e .a)) (g (e .b)) x y

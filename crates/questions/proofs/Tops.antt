@@ -53,8 +53,9 @@ top-there run j tops q =
     ap (λ (l : List ℕ). getD l j 0) q ∙ padded-at 0 numberLimit (values topOf 0 (entriesIn run) (roomFor run numberLimit)) j
 
 -- and that it looks at no others
-same-seen : (k : QuestionKind) (equal : Bool) (a b rows m n : ℕ) (f g : ℕ → Set decisions) (x y u v : Set truths) → ((r : ℕ) → r < rows → f r ≡ g r) →
-    topBy k a b m n ≤ rows → (m ≤ rows → x ≡ u) → (n ≤ rows → y ≡ v) → truthSetBy k equal (f a) (f b) x y ≡ truthSetBy k equal (g a) (g b) u v
+same-seen : (k : QuestionKind) (equal : Bool) (a b rows m n : ℕ) (f g : ℕ → Set decisions) (x y u v : Set truths) →
+    ((r : ℕ) → r < rows → f r ≡ g r) → topBy k a b m n ≤ rows → (m ≤ rows → x ≡ u) → (n ≤ rows → y ≡ v) →
+    truthSetBy k equal (f a) (f b) x y ≡ truthSetBy k equal (g a) (g b) u v
 unfolding truthSetBy
 same-seen (Compare o) equal a b rows m n f g x y u v h t p q = ap₂ (imageTwo (atOrBelow o) equal) (h a (omega arith)) (h b (omega arith))
 same-seen Not equal a b rows m n f g x y u v h t p q = rw (p t)

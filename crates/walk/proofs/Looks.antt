@@ -27,7 +27,8 @@ settled t false true e q = absurd (at (t .has false) (rw q at e))
 settled t false false e q = refl
 
 -- and one within it that has a member is settled alike
-pub settled-within : (t u : Set truths) (b r : Bool) → Within t u → t .has r ≡ true → look u ≡ cond b Nothing Found → look t ≡ cond b Nothing Found
+pub settled-within : (t u : Set truths) (b r : Bool) → Within t u → t .has r ≡ true → look u ≡ cond b Nothing Found →
+    look t ≡ cond b Nothing Found
 settled-within t u b r within has e =
     let only : (x : Bool) → t .has x ≡ true → x ≡ b = λ x q. settled u b x e (within x q) in
     at b (t .has true) (t .has false) refl refl only (rw (only r has) at has)

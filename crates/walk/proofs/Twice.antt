@@ -35,8 +35,8 @@ below-fewer l Nothing vs ws s h = rw (s true refl) (omega arith)
 below-fewer l Found vs ws s h = rw (s false refl) (omega arith)
 below-fewer l Open vs ws s h = omega (arith, below-bound l vs)
 
-else-fewer : (f g : Option ℕ) (vs ws first second : List Visit) → (f ≡ none → g ≡ none) → length vs ≤ length first → length ws ≤ length second →
-    length (vs ++ ifNone f ws) ≤ length (first ++ ifNone g second)
+else-fewer : (f g : Option ℕ) (vs ws first second : List Visit) → (f ≡ none → g ≡ none) → length vs ≤ length first →
+    length ws ≤ length second → length (vs ++ ifNone f ws) ≤ length (first ++ ifNone g second)
 else-fewer none g vs ws first second e h k = rw (e refl) (omega (arith, length-append vs ws, length-append first second))
 else-fewer (some m) g vs ws first second e h k = rw (append-nil vs) (omega (arith, length-append first (ifNone g second)))
 
@@ -73,7 +73,8 @@ module _ (see wide : ℕ → ℕ → Look) (hit : ℕ → Bool) (all : ℕ)
       look-nothing (wide known facts) facts (found (below (wide known facts) (orElse first second))) (not-here known facts (b .only) none-hit)
       (below-nothing (wide known facts) (orElse first second) (found-else first second ∙ rw (a, c)))
 
-  fewer-visits : (ps : List ℕ) (known facts : ℕ) → Begun all ps known facts → length (visitsFrom see ps known facts) ≤ length (visitsFrom wide ps known facts)
+  fewer-visits : (ps : List ℕ) (known facts : ℕ) → Begun all ps known facts →
+      length (visitsFrom see ps known facts) ≤ length (visitsFrom wide ps known facts)
   unfolding visitsFrom
   fewer-visits [] known facts b = omega arith
   fewer-visits (p ∷ ps) known facts b =
