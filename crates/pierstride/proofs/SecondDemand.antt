@@ -25,11 +25,11 @@ use Rattle.entries.proofs.Numbers.{by-order}
 use Rattle.table.proofs.Laws.{covered}
 use Rattle.table.specs.Whole.{Whole}
 use Rattle.table.proofs.Writing.{of-accepted}
-use Rattle.decide.specs.Meaning.{decideBy, decides as decides-by, decision}
+use Rattle.decide.specs.Meaning.{decideBy, decides as decides-by}
 use Rattle.decide.specs.Reach.{reaches}
 use Rattle.decide.specs.Requests.{Agree}
 use Rattle.decide.proofs.Independence.{independent}
-use Rattle.decide.proofs.Rules.{by-named, by-rule}
+use Rattle.decide.proofs.Rules.{by-answers}
 use Rattle.decide.proofs.Renaming.{decisions-come}
 use Rattle.walk.specs.declared.Reply.the-variants.{Holds, Fails, Unfinished}
 use Rattle.walk.specs.Order.{comesBefore}
@@ -57,13 +57,8 @@ pub decide-by-rule : (s : List ℕ) (c : Contents) → reading s ≡ answered c 
     code (decideBy (asRow (e .kind)) (e .a) request (coded (decideAnswer s (e .a) request .code)) (coded (decideAnswer s (e .b) request .code)))
 decide-by-rule s c is r request told =
     let d = decided s c is r request told in
-    let lower : (x : ℕ) → x < r → decision (c .rows) request x ≡ coded (decideAnswer s x request .code) =
-    λ x h.
-    let lower = decides s c is x request (omega (arith, d .0 .there)) (d .0 .good) in
-    sym (ap (λ (a : Decided). coded (a .code)) lower ∙ coded-code (decision (c .rows) request x)) in
-    ap (λ (a : Decided). a .code) (d .1)
-    ∙ ap code (by-rule s c is r (d .0 .there) (decides-by request) (decisions-come request) U
-    ∙ by-named s c is r (d .0 .there) (decides-by request) (decisions-come request) _ _ _ _ (lower _) (lower _))
+    by-answers s c is r (d .0 .there) (decides-by request) (decisions-come request) U code coded coded-code (λ x. decideAnswer s x request .code)
+    (λ x h. ap (λ (a : Decided). a .code) (decides s c is x request h (d .0 .good)))
 
 -- "Two requests that agree on every predicate that a row reaches … get the same decision from it"
 pub decide-independent : (s : List ℕ) (c : Contents) → reading s ≡ answered c → (r m o : ℕ) → Agree (reaches (c .rows) r) m o →

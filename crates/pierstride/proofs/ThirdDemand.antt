@@ -25,7 +25,7 @@ use Rattle.table.proofs.Laws.{covered}
 use Rattle.entries.proofs.Numbers.{by-order}
 use Rattle.decide.specs.Meaning.{bit, decision}
 use Rattle.decide.specs.Requests.{Fills, Learns, AllKnown}
-use Rattle.decide.proofs.Rules.{by-named, by-rule}
+use Rattle.decide.proofs.Rules.{by-answers}
 use Rattle.possible.specs.Sets.{decisions, single, mask, ofMask}
 use Rattle.possible.specs.Possible.{setBy, setOf, possible}
 use Rattle.possible.proofs.Masks.{of-mask, mask-below, member-bit, single-mask}
@@ -109,13 +109,8 @@ pub possible-by-rule : (s : List ℕ) (c : Contents) → reading s ≡ answered 
     (ofMask decisions (possibleAnswer s (e .a) known request .set)) (ofMask decisions (possibleAnswer s (e .b) known request .set)))
 possible-by-rule s c is r known request told =
     let d = remained s c is r known request told in
-    let lower : (x : ℕ) → x < r → possible (c .rows) known request x ≡ ofMask decisions (possibleAnswer s x known request .set) =
-    λ x h.
-    let lower = remains s c is x known request (omega (arith, d .0 .there)) (d .0 .good) in
-    sym (ap (λ (a : Remaining). ofMask decisions (a .set)) lower ∙ of-mask decisions (possible (c .rows) known request x)) in
-    ap (λ (a : Remaining). a .set) (d .1)
-    ∙ ap (mask decisions) (by-rule s c is r (d .0 .there) (setOf known request) (sets-come known request) (single U)
-    ∙ by-named s c is r (d .0 .there) (setOf known request) (sets-come known request) _ _ _ _ (lower _) (lower _))
+    by-answers s c is r (d .0 .there) (setOf known request) (sets-come known request) (single U) (mask decisions) (ofMask decisions) (of-mask decisions)
+    (λ x. possibleAnswer s x known request .set) (λ x h. ap (λ (a : Remaining). a .set) (remains s c is x known request h (d .0 .good)))
 
 -- the set of a row, and its members: a decision counts two to the power of its code
 module _ (s : List ℕ) (r known request : ℕ) (left : possibleAnswer s r known request .refusal ≡ 0) where
