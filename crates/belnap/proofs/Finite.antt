@@ -92,3 +92,11 @@ one-outcome f g e o x y z = alike-is (f o x y z) (g o x y z) (law (λ o x y z. a
 pub one-decision : (f g : Order → Decision → Decision → Decision → Decision) → everywhere (λ o x y z. same (f o x y z) (g o x y z)) ≡ true →
     (o : Order) (x y z : Decision) → f o x y z ≡ g o x y z
 one-decision f g e o x y z = same-is (f o x y z) (g o x y z) (law (λ o x y z. same (f o x y z) (g o x y z)) e o x y z)
+
+-- the same from two decisions, and from one
+pub one-from-two : (f g : Decision → Decision → Decision) → everywhere (λ o x y z. same (f x y) (g x y)) ≡ true →
+    (x y : Decision) → f x y ≡ g x y
+one-from-two f g e x y = one-decision (λ o x y z. f x y) (λ o x y z. g x y) e Truth x y y
+
+pub one-from-one : (f g : Decision → Decision) → everywhere (λ o x y z. same (f x) (g x)) ≡ true → (x : Decision) → f x ≡ g x
+one-from-one f g e x = one-decision (λ o x y z. f x) (λ o x y z. g x) e Truth x x x

@@ -2,6 +2,9 @@
 -- Assumes nothing.
 use mathlib.Core.Path.{_≡_, sym, _∙_}
 use Rattle.belnap.specs.One.{One}
+use Rattle.belnap.proofs.grants.Reads as grants
+use Rattle.belnap.proofs.denies.Reads as denies
+use Rattle.belnap.proofs.claiming.Reads as claiming
 use Rattle.belnap.proofs.code_of.Reads as code_of
 use Rattle.belnap.proofs.decision_of.Reads as decision_of
 use Rattle.belnap.proofs.lattice.negation.Reads as negation
@@ -14,6 +17,15 @@ use Rattle.belnap.proofs.lattice.knowledge_join.Reads as knowledge_join
 -- two that equal a third: the answers of any promise of the form `answer ≡ definition`
 pub by-definition : {A : Type 0} {x : A} → (a b : A) → a ≡ x → b ≡ x → a ≡ b
 by-definition a b p q = p ∙ sym q
+
+pub one-grants : One grants.Post
+one-grants κs args exit = by-definition
+
+pub one-denies : One denies.Post
+one-denies κs args exit = by-definition
+
+pub one-claiming : One claiming.Post
+one-claiming κs args exit = by-definition
 
 pub one-code : One code_of.Post
 one-code κs args exit = by-definition

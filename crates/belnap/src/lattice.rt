@@ -1,151 +1,50 @@
-// The operators of the two orders: the meet, the join and the negation of each. Each two-row operator is a list of its sixteen cases, as at the old desk:
-// the outer match goes by the first decision, the inner one by the second.
+// The operators of the two orders: the meet, the join and the negation of each. Each says what its decision grants, and what it denies, under its
+// sentence of 01.
 use crate::Decision;
+use crate::claiming;
+use crate::denies;
+use crate::grants;
 ghost use mathlib.Core.Path.{_≡_};
 ghost use Rattle.belnap.specs.Lattice.{negation as negated, conflation as conflated, truthMeet, truthJoin, knowledgeMeet, knowledgeJoin};
 
+// "Negation exchanges the claims."
 pub fn negation(x: Decision) -> Decision
     ensures { λ r. ⌜ r ≡ negated x ⌝ }
 {
-    match x {
-        Decision::U => Decision::U,
-        Decision::D => Decision::G,
-        Decision::G => Decision::D,
-        Decision::C => Decision::C,
-    }
+    claiming(denies(x), grants(x))
 }
 
+// "Conflation exchanges u and c and keeps g and d": grants if x does not deny, denies if x does not grant.
 pub fn conflation(x: Decision) -> Decision
     ensures { λ r. ⌜ r ≡ conflated x ⌝ }
 {
-    match x {
-        Decision::U => Decision::C, // u and c are exchanged
-        Decision::D => Decision::D,
-        Decision::G => Decision::G, // g is kept, and d
-        Decision::C => Decision::U,
-    }
+    claiming(!denies(x), !grants(x))
 }
 
+// "Truth meet: grants if both grant, denies if either denies." So u and c give d: c denies, and u does not grant.
 pub fn truth_meet(x: Decision, y: Decision) -> Decision
     ensures { λ r. ⌜ r ≡ truthMeet x y ⌝ }
 {
-    match x {
-        Decision::U => match y {
-            Decision::U => Decision::U,
-            Decision::D => Decision::D,
-            Decision::G => Decision::U,
-            Decision::C => Decision::D, // c denies, and only c grants
-        },
-        Decision::D => match y {
-            Decision::U => Decision::D,
-            Decision::D => Decision::D,
-            Decision::G => Decision::D,
-            Decision::C => Decision::D,
-        },
-        Decision::G => match y {
-            Decision::U => Decision::U,
-            Decision::D => Decision::D,
-            Decision::G => Decision::G,
-            Decision::C => Decision::C,
-        },
-        Decision::C => match y {
-            Decision::U => Decision::D,
-            Decision::D => Decision::D,
-            Decision::G => Decision::C,
-            Decision::C => Decision::C,
-        },
-    }
+    claiming(grants(x) & grants(y), denies(x) | denies(y))
 }
 
+// "Truth join: grants if either, denies if both."
 pub fn truth_join(x: Decision, y: Decision) -> Decision
     ensures { λ r. ⌜ r ≡ truthJoin x y ⌝ }
 {
-    match x {
-        Decision::U => match y {
-            Decision::U => Decision::U,
-            Decision::D => Decision::U,
-            Decision::G => Decision::G,
-            Decision::C => Decision::G,
-        },
-        Decision::D => match y {
-            Decision::U => Decision::U,
-            Decision::D => Decision::D,
-            Decision::G => Decision::G,
-            Decision::C => Decision::C,
-        },
-        Decision::G => match y {
-            Decision::U => Decision::G,
-            Decision::D => Decision::G,
-            Decision::G => Decision::G,
-            Decision::C => Decision::G,
-        },
-        Decision::C => match y {
-            Decision::U => Decision::G,
-            Decision::D => Decision::C,
-            Decision::G => Decision::G,
-            Decision::C => Decision::C,
-        },
-    }
+    claiming(grants(x) | grants(y), denies(x) & denies(y))
 }
 
+// "Knowledge meet: each claim if both have it."
 pub fn knowledge_meet(x: Decision, y: Decision) -> Decision
     ensures { λ r. ⌜ r ≡ knowledgeMeet x y ⌝ }
 {
-    match x {
-        Decision::U => match y {
-            Decision::U => Decision::U,
-            Decision::D => Decision::U,
-            Decision::G => Decision::U,
-            Decision::C => Decision::U,
-        },
-        Decision::D => match y {
-            Decision::U => Decision::U,
-            Decision::D => Decision::D,
-            Decision::G => Decision::U,
-            Decision::C => Decision::D,
-        },
-        Decision::G => match y {
-            Decision::U => Decision::U,
-            Decision::D => Decision::U,
-            Decision::G => Decision::G,
-            Decision::C => Decision::G,
-        },
-        Decision::C => match y {
-            Decision::U => Decision::U,
-            Decision::D => Decision::D,
-            Decision::G => Decision::G,
-            Decision::C => Decision::C,
-        },
-    }
+    claiming(grants(x) & grants(y), denies(x) & denies(y))
 }
 
+// "Knowledge join: each claim if either has it."
 pub fn knowledge_join(x: Decision, y: Decision) -> Decision
     ensures { λ r. ⌜ r ≡ knowledgeJoin x y ⌝ }
 {
-    match x {
-        Decision::U => match y {
-            Decision::U => Decision::U,
-            Decision::D => Decision::D,
-            Decision::G => Decision::G,
-            Decision::C => Decision::C,
-        },
-        Decision::D => match y {
-            Decision::U => Decision::D,
-            Decision::D => Decision::D,
-            Decision::G => Decision::C,
-            Decision::C => Decision::C,
-        },
-        Decision::G => match y {
-            Decision::U => Decision::G,
-            Decision::D => Decision::C,
-            Decision::G => Decision::G,
-            Decision::C => Decision::C,
-        },
-        Decision::C => match y {
-            Decision::U => Decision::C,
-            Decision::D => Decision::C,
-            Decision::G => Decision::C,
-            Decision::C => Decision::C,
-        },
-    }
+    claiming(grants(x) | grants(y), denies(x) | denies(y))
 }

@@ -8,26 +8,25 @@ use Rattle.belnap.specs.declared.Decision.the-variants.{U, D, G, C}
 use Rattle.belnap.specs.declared.orders.Order.the-variants.{Truth}
 use Rattle.belnap.specs.Lattice.{negation, conflation, truthMeet, truthJoin, knowledgeMeet, knowledgeJoin}
 use Rattle.operators.specs.Operators.{closedDefault, openDefault, implication, guard, override}
-use Rattle.belnap.proofs.Finite.{one-decision}
+use Rattle.belnap.proofs.Finite.{one-decision, one-from-one, one-from-two}
 
 -- p ∨ q = ¬(¬p ∧ ¬q)
 pub truth-join-formula : (p q : Decision) → truthJoin p q ≡ negation (truthMeet (negation p) (negation q))
-truth-join-formula p q = one-decision (λ o p q r. truthJoin p q) (λ o p q r. negation (truthMeet (negation p) (negation q))) refl Truth p q q
+truth-join-formula = one-from-two truthJoin (λ p q. negation (truthMeet (negation p) (negation q))) refl
 
 -- p ⊗ q = (p ∧ ⊥) ∨ (q ∧ ⊥) ∨ (p ∧ q), and p ⊕ q = (p ∧ ⊤) ∨ (q ∧ ⊤) ∨ (p ∧ q)
 abbrev through : Decision → Decision → Decision → Decision
 through v p q = truthJoin (truthJoin (truthMeet p v) (truthMeet q v)) (truthMeet p q)
 
 pub knowledge-meet-formula : (p q : Decision) → knowledgeMeet p q ≡ through U p q
-knowledge-meet-formula p q = one-decision (λ o p q r. knowledgeMeet p q) (λ o p q r. through U p q) refl Truth p q q
+knowledge-meet-formula = one-from-two knowledgeMeet (through U) refl
 
 pub knowledge-join-formula : (p q : Decision) → knowledgeJoin p q ≡ through C p q
-knowledge-join-formula p q = one-decision (λ o p q r. knowledgeJoin p q) (λ o p q r. through C p q) refl Truth p q q
+knowledge-join-formula = one-from-two knowledgeJoin (through C) refl
 
 -- -p = (¬p ⊃ ⊥) ⊕ ¬(p ⊃ ⊥)
 pub conflation-formula : (p : Decision) → conflation p ≡ knowledgeJoin (implication (negation p) U) (negation (implication p U))
-conflation-formula p =
-    one-decision (λ o p q r. conflation p) (λ o p q r. knowledgeJoin (implication (negation p) U) (negation (implication p U))) refl Truth p p p
+conflation-formula = one-from-one conflation (λ p. knowledgeJoin (implication (negation p) U) (negation (implication p U))) refl
 
 -- p[f ↦ q] = p ∨ (¬(p ∨ -p) ∧ q), p[t ↦ q] = p ∧ (¬(p ∧ -p) ∨ q),
 -- p[⊥ ↦ q] = p ⊕ (-(p ⊕ ¬p) ⊗ q), p[⊤ ↦ q] = p ⊗ (-(p ⊗ ¬p) ⊕ q)
@@ -42,15 +41,14 @@ override-formula = one-decision (λ o. override) (λ o. figure) refl Truth
 
 -- p↓ = p[⊤ ↦ f][⊥ ↦ f] and p↑ = p[⊤ ↦ t][⊥ ↦ t]
 pub closed-default-formula : (p : Decision) → closedDefault p ≡ override U (override C p D) D
-closed-default-formula p = one-decision (λ o p q r. closedDefault p) (λ o p q r. override U (override C p D) D) refl Truth p p p
+closed-default-formula = one-from-one closedDefault (λ p. override U (override C p D) D) refl
 
 pub open-default-formula : (p : Decision) → openDefault p ≡ override U (override C p G) G
-open-default-formula p = one-decision (λ o p q r. openDefault p) (λ o p q r. override U (override C p G) G) refl Truth p p p
+open-default-formula = one-from-one openDefault (λ p. override U (override C p G) G) refl
 
 -- p : q = (p ⊃ q) ⊗ ¬(p ⊃ ¬q) (000)
 pub guard-formula : (p q : Decision) → guard p q ≡ knowledgeMeet (implication p q) (negation (implication p (negation q)))
-guard-formula p q =
-    one-decision (λ o p q r. guard p q) (λ o p q r. knowledgeMeet (implication p q) (negation (implication p (negation q)))) refl Truth p q q
+guard-formula = one-from-two guard (λ p q. knowledgeMeet (implication p q) (negation (implication p (negation q)))) refl
 
 -- 000's formulas for override as printed: at the very value to be overridden each gives that value back
 abbrev printed : Decision → Decision → Decision → Decision
@@ -60,4 +58,4 @@ printed U p q = knowledgeJoin p (knowledgeMeet (negation (knowledgeJoin p (negat
 printed C p q = knowledgeJoin p (knowledgeMeet (negation (knowledgeMeet p (negation p))) q)
 
 pub printed-gives-back : (v q : Decision) → printed v v q ≡ v
-printed-gives-back v q = one-decision (λ o v q r. printed v v q) (λ o v q r. v) refl Truth v q q
+printed-gives-back = one-from-two (λ v q. printed v v q) (λ v q. v) refl

@@ -1,3 +1,4 @@
--- The formulas of the operators; below this file, a folder for each function that has a proof of its own.
+-- The formulas of the operators, and their claims; below this file, a folder for each function that has a proof of its own.
 pub mod Formulas
+pub mod Claims
 pub mod Unique

@@ -1,8 +1,12 @@
-// The operators on decisions by name: those of the two orders (belnap::lattice) and the others, which stand here. Each two-row operator is a list
-// of its sixteen cases, as at the old desk: the outer match goes by the first decision, the inner one by the second.
+// The operators on decisions by name: those of the two orders (belnap::lattice) and the others, which stand here. Each says what its decision grants, and
+// what it denies, under its sentence of 01.
 use belnap::Decision;
+use belnap::claiming;
+use belnap::denies;
+use belnap::grants;
 use belnap::lattice;
 ghost use mathlib.Core.Path.{_≡_};
+ghost use Rattle.belnap.specs.Decisions.{same};
 ghost use Rattle.operators.specs.Operators.{closedDefault, openDefault, implication as implied, guard as guarded, override, one, two};
 
 // The one-row operators by name.
@@ -27,212 +31,46 @@ pub enum TwoRow {
     OverrideC,
 }
 
+// "Closed default turns u and c into d": grants if x only grants, and denies otherwise.
 fn closed_default(x: Decision) -> Decision
     ensures { λ r. ⌜ r ≡ closedDefault x ⌝ }
 {
-    match x {
-        Decision::U => Decision::D,
-        Decision::D => Decision::D,
-        Decision::G => Decision::G,
-        Decision::C => Decision::D, // a conflict is closed like a gap
-    }
+    claiming(grants(x) & !denies(x), !grants(x) | denies(x))
 }
 
+// "Open default turns them into g": denies if x only denies, and grants otherwise.
 fn open_default(x: Decision) -> Decision
     ensures { λ r. ⌜ r ≡ openDefault x ⌝ }
 {
-    match x {
-        Decision::U => Decision::G,
-        Decision::D => Decision::D,
-        Decision::G => Decision::G,
-        Decision::C => Decision::G,
-    }
+    claiming(grants(x) | !denies(x), !grants(x) & denies(x))
 }
 
+// "Implication: the second if the first is g or c; otherwise g": grants if x does not grant or y grants, denies if x grants and y denies.
 fn implication(x: Decision, y: Decision) -> Decision
     ensures { λ r. ⌜ r ≡ implied x y ⌝ }
 {
-    match x {
-        Decision::U => match y {
-            Decision::U => Decision::G,
-            Decision::D => Decision::G,
-            Decision::G => Decision::G,
-            Decision::C => Decision::G,
-        },
-        Decision::D => match y {
-            Decision::U => Decision::G,
-            Decision::D => Decision::G,
-            Decision::G => Decision::G,
-            Decision::C => Decision::G,
-        },
-        Decision::G => match y {
-            Decision::U => Decision::U,
-            Decision::D => Decision::D,
-            Decision::G => Decision::G,
-            Decision::C => Decision::C,
-        },
-        Decision::C => match y {
-            Decision::U => Decision::U,
-            Decision::D => Decision::D, // c grants, so the second: d
-            Decision::G => Decision::G,
-            Decision::C => Decision::C,
-        },
-    }
+    claiming(!grants(x) | grants(y), grants(x) & denies(y))
 }
 
+// "Guard: the second if the first is g or c; otherwise u": grants if x grants and y grants, denies if x grants and y denies.
 fn guard(x: Decision, y: Decision) -> Decision
     ensures { λ r. ⌜ r ≡ guarded x y ⌝ }
 {
-    match x {
-        Decision::U => match y {
-            Decision::U => Decision::U,
-            Decision::D => Decision::U,
-            Decision::G => Decision::U, // u does not grant, so u
-            Decision::C => Decision::U,
-        },
-        Decision::D => match y {
-            Decision::U => Decision::U,
-            Decision::D => Decision::U,
-            Decision::G => Decision::U,
-            Decision::C => Decision::U,
-        },
-        Decision::G => match y {
-            Decision::U => Decision::U,
-            Decision::D => Decision::D,
-            Decision::G => Decision::G,
-            Decision::C => Decision::C,
-        },
-        Decision::C => match y {
-            Decision::U => Decision::U,
-            Decision::D => Decision::D,
-            Decision::G => Decision::G,
-            Decision::C => Decision::C,
-        },
-    }
+    claiming(grants(x) & grants(y), grants(x) & denies(y))
 }
 
-fn override_u(x: Decision, y: Decision) -> Decision
-    ensures { λ r. ⌜ r ≡ override Decision.U x y ⌝ }
+// Whether x is y: it is if both claims are alike.
+fn same_claims(x: Decision, y: Decision) -> bool
+    ensures { λ r. ⌜ r ≡ same x y ⌝ }
 {
-    match x {
-        Decision::U => match y {
-            Decision::U => Decision::U,
-            Decision::D => Decision::D,
-            Decision::G => Decision::G,
-            Decision::C => Decision::C,
-        },
-        Decision::D => match y {
-            Decision::U => Decision::D,
-            Decision::D => Decision::D,
-            Decision::G => Decision::D,
-            Decision::C => Decision::D,
-        },
-        Decision::G => match y {
-            Decision::U => Decision::G,
-            Decision::D => Decision::G,
-            Decision::G => Decision::G,
-            Decision::C => Decision::G,
-        },
-        Decision::C => match y {
-            Decision::U => Decision::C,
-            Decision::D => Decision::C,
-            Decision::G => Decision::C,
-            Decision::C => Decision::C,
-        },
-    }
+    (grants(x) == grants(y)) & (denies(x) == denies(y))
 }
 
-fn override_d(x: Decision, y: Decision) -> Decision
-    ensures { λ r. ⌜ r ≡ override Decision.D x y ⌝ }
+// "Override of v: the second if the first is v; otherwise the first": both claims are those of y if x is v, and those of x if not.
+fn override_of(v: Decision, x: Decision, y: Decision) -> Decision
+    ensures { λ r. ⌜ r ≡ override v x y ⌝ }
 {
-    match x {
-        Decision::U => match y {
-            Decision::U => Decision::U,
-            Decision::D => Decision::U,
-            Decision::G => Decision::U,
-            Decision::C => Decision::U,
-        },
-        Decision::D => match y {
-            Decision::U => Decision::U,
-            Decision::D => Decision::D,
-            Decision::G => Decision::G,
-            Decision::C => Decision::C,
-        },
-        Decision::G => match y {
-            Decision::U => Decision::G,
-            Decision::D => Decision::G,
-            Decision::G => Decision::G,
-            Decision::C => Decision::G,
-        },
-        Decision::C => match y {
-            Decision::U => Decision::C,
-            Decision::D => Decision::C,
-            Decision::G => Decision::C,
-            Decision::C => Decision::C,
-        },
-    }
-}
-
-fn override_g(x: Decision, y: Decision) -> Decision
-    ensures { λ r. ⌜ r ≡ override Decision.G x y ⌝ }
-{
-    match x {
-        Decision::U => match y {
-            Decision::U => Decision::U,
-            Decision::D => Decision::U,
-            Decision::G => Decision::U,
-            Decision::C => Decision::U,
-        },
-        Decision::D => match y {
-            Decision::U => Decision::D,
-            Decision::D => Decision::D,
-            Decision::G => Decision::D,
-            Decision::C => Decision::D,
-        },
-        Decision::G => match y {
-            Decision::U => Decision::U,
-            Decision::D => Decision::D,
-            Decision::G => Decision::G,
-            Decision::C => Decision::C,
-        },
-        Decision::C => match y {
-            Decision::U => Decision::C,
-            Decision::D => Decision::C,
-            Decision::G => Decision::C,
-            Decision::C => Decision::C,
-        },
-    }
-}
-
-fn override_c(x: Decision, y: Decision) -> Decision
-    ensures { λ r. ⌜ r ≡ override Decision.C x y ⌝ }
-{
-    match x {
-        Decision::U => match y {
-            Decision::U => Decision::U,
-            Decision::D => Decision::U,
-            Decision::G => Decision::U,
-            Decision::C => Decision::U,
-        },
-        Decision::D => match y {
-            Decision::U => Decision::D,
-            Decision::D => Decision::D,
-            Decision::G => Decision::D,
-            Decision::C => Decision::D,
-        },
-        Decision::G => match y {
-            Decision::U => Decision::G,
-            Decision::D => Decision::G,
-            Decision::G => Decision::G,
-            Decision::C => Decision::G,
-        },
-        Decision::C => match y {
-            Decision::U => Decision::U,
-            Decision::D => Decision::D,
-            Decision::G => Decision::G, // the value to be overridden: the second
-            Decision::C => Decision::C,
-        },
-    }
+    if same_claims(x, v) { y } else { x }
 }
 
 // The one-row operator with a name, applied.
@@ -258,9 +96,9 @@ pub fn apply_two(op: TwoRow, x: Decision, y: Decision) -> Decision
         TwoRow::KnowledgeJoin => lattice::knowledge_join(x, y),
         TwoRow::Implication => implication(x, y),
         TwoRow::Guard => guard(x, y),
-        TwoRow::OverrideU => override_u(x, y),
-        TwoRow::OverrideD => override_d(x, y),
-        TwoRow::OverrideG => override_g(x, y),
-        TwoRow::OverrideC => override_c(x, y),
+        TwoRow::OverrideU => override_of(Decision::U, x, y),
+        TwoRow::OverrideD => override_of(Decision::D, x, y),
+        TwoRow::OverrideG => override_of(Decision::G, x, y),
+        TwoRow::OverrideC => override_of(Decision::C, x, y),
     }
 }
