@@ -24,11 +24,12 @@ code-coded (suc (suc zero)) h = refl
 code-coded (suc (suc (suc zero))) h = refl
 code-coded (suc (suc (suc (suc n)))) h = absurd (omega arith)
 
--- a claim as a bit is at most 1; "denies" counts 1 in a code, and "grants" 2
+-- a claim as a bit is at most 1
 pub bit-small : (p : Bool) → boolByte p ≤ 1
 bit-small true = omega arith
 bit-small false = omega arith
 
+-- "denies" counts 1 in a code, and "grants" 2
 pub code-claims : (p q : Bool) → code (claiming p q) ≡ 2 * boolByte p + boolByte q
 code-claims true true = refl
 code-claims true false = refl

@@ -35,7 +35,7 @@ pub fn denies(x: Decision) -> bool
     }
 }
 
-// The decision with two claims. Its code has them as bits: "denies" counts 1 and "grants" 2.
+// The decision with these two claims. Its code has them as bits: "denies" counts 1, "grants" 2.
 pub fn claiming(grants: bool, denies: bool) -> Decision
     ensures { λ r. ⌜ r ≡ claiming grants denies ⌝ }
 {

@@ -1,4 +1,5 @@
--- What each operator that is of no order grants, and what it denies: the rule that its code says (src/lib.rt), computed at every decision.
+-- What the defaults, implication and guard grant and deny, and when two decisions are the same: the rules that the code says (src/lib.rt), each computed
+-- to be the definition's at every decision.
 -- Assumes nothing.
 use mathlib.Core.Path.{_≡_, refl}
 use mathlib.Core.Bool.{Bool, Bool·beq, not, _&&_, _||_}

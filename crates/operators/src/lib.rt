@@ -1,5 +1,5 @@
-// The operators on decisions by name: those of the two orders (belnap::lattice) and the others, which stand here. Each says what its decision grants, and
-// what it denies, under its sentence of 01.
+// The operators on decisions by name: those of the two orders (belnap::lattice) and the others, which stand here. Under its sentence of 01, each says what
+// its decision grants, and what it denies; an override takes one of its two decisions, by the claims of the first.
 use belnap::Decision;
 use belnap::claiming;
 use belnap::denies;

@@ -1,7 +1,7 @@
 //! The four decisions, their operators and their two orders.
 //!
-//! Everything here is written with the two claims, "grants" and "denies", as
-//! the specification words it, and not as lists of cases.
+//! Everything here is written as the specification words it: with the two claims,
+//! "grants" and "denies", where it names them, and by the decisions where it does not.
 
 /// A decision: which of the two claims "grants" and "denies" are made.
 #[derive(Clone, Copy, Debug, PartialEq, Eq)]
