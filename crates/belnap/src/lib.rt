@@ -13,6 +13,7 @@ pub enum Decision {
     C,
 }
 
+// "Each decision is two claims, 'grants' and 'denies': u has neither, d only denies, g only grants, c has both."
 pub fn grants(x: Decision) -> bool
     ensures { λ r. ⌜ r ≡ grants x ⌝ }
 {
