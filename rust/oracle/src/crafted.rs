@@ -1,8 +1,8 @@
-//! Tables made for a purpose: walks of a known length, every set there is, and the
-//! longest text.
+//! Tables made for a purpose: walks of a known length, every set there is, constraints
+//! on predicates that a walk comes to, and the longest text.
 
 use crate::kinds::*;
-use crate::{QUESTIONS, ROWS};
+use crate::{CONSTRAINTS, PREDICATES, QUESTIONS, ROWS};
 
 /// A table with a row that grants if an odd number of `count` predicates is yes
 /// and otherwise denies, and last the negation of its negation. As long as a
@@ -23,6 +23,34 @@ pub fn parity(count: u8) -> Vec<u8> {
     let twin = odd + 2;
     bytes.extend([0x20, odd, 0x20, odd + 1, 0x40, odd, twin, 0x41, odd, twin]);
     bytes
+}
+
+/// A table of `count` predicates, at least one, of which each but the last is yes only if
+/// the next is. Its question is broken by every request with predicate 0 yes, so the
+/// first within the constraints that breaks it has all of them yes. Behind the visits
+/// with nothing known and with predicate 0 no and yes, each further predicate takes two.
+pub fn chain(count: u8) -> Vec<u8> {
+    let links = (1..count).flat_map(|predicate| [ONLY_IF, predicate - 1, predicate]);
+    links.chain([IF_PREDICATE[1], 0, CONSTANTS[0], COMPARISONS[0], 0, 1]).collect()
+}
+
+/// The same, but its last predicate is never yes, and so none of them is. The question
+/// holds after as many visits.
+pub fn shut_chain(count: u8) -> Vec<u8> {
+    [vec![NEVER_BOTH, count - 1, count - 1], chain(count)].concat()
+}
+
+/// So many visits a walk makes over a chain of `count` predicates.
+pub fn visits_of_chain(count: u8) -> u32 {
+    2 * u32::from(count) + 1
+}
+
+/// As many constraints as a table may have, on the predicates below `count` and the last
+/// there is. As long as that is unknown or no, no request breaks one and none waits.
+pub fn idle_constraints(count: u8) -> Vec<u8> {
+    let last = PREDICATES as u8 - 1;
+    let pair = |predicate| [NEVER_BOTH, predicate, last, ONLY_IF, predicate, predicate];
+    (0..count).cycle().flat_map(pair).take(3 * CONSTRAINTS).collect()
 }
 
 /// So many rows `rows_of_every_set` makes.
@@ -98,7 +126,8 @@ fn questions_on_every_set() -> Vec<u8> {
 /// The table with the longest text: every entry has the longest word that it can
 /// have, and the highest numbers. The first row can name no row.
 pub fn longest_text() -> Vec<u8> {
-    let mut bytes = vec![0x11, 23];
+    let mut bytes = [NEVER_BOTH, 23, 23].repeat(CONSTRAINTS);
+    bytes.extend([0x11, 23]);
     for number in 1..ROWS {
         let before = (number - 1) as u8;
         bytes.extend([0x38, before, before]);

@@ -3,7 +3,7 @@
 //! alone.
 
 use crate::refusal::{MAY_NOT_BE_NAMED, PREDICATE_TOO_HIGH};
-use crate::PREDICATES;
+use crate::{Part, PREDICATES};
 
 pub const CONSTANTS: [u8; 4] = [0x00, 0x01, 0x02, 0x03];
 pub const IF_PREDICATE: [u8; 2] = [0x10, 0x11];
@@ -12,12 +12,16 @@ pub const ON_TWO_ROWS: [u8; 10] = [0x30, 0x31, 0x32, 0x33, 0x34, 0x35, 0x38, 0x3
 pub const COMPARISONS: [u8; 2] = [0x40, 0x41];
 pub const NOT: u8 = 0x42;
 pub const BOTH: u8 = 0x43;
+pub const NEVER_BOTH: u8 = 0x50;
+pub const ONLY_IF: u8 = 0x51;
+pub const ON_TWO_PREDICATES: [u8; 2] = [NEVER_BOTH, ONLY_IF];
 
 /// Kinds whose bodies are alike.
 #[derive(Clone, Copy, Debug)]
 pub struct Group {
     pub kinds: &'static [u8],
-    pub is_question: bool,
+    /// Where in a table they stand.
+    pub part: Part,
     /// How many numbers a body has.
     pub length: usize,
     /// What each of them is the number of; any, where there are none.
@@ -33,21 +37,22 @@ enum Named {
 
 /// Every listed kind.
 #[rustfmt::skip]
-pub const LISTED: [Group; 7] = [
-    Group { kinds: &CONSTANTS, is_question: false, length: 0, names: Named::Row },
-    Group { kinds: &IF_PREDICATE, is_question: false, length: 1, names: Named::Predicate },
-    Group { kinds: &ON_ONE_ROW, is_question: false, length: 1, names: Named::Row },
-    Group { kinds: &ON_TWO_ROWS, is_question: false, length: 2, names: Named::Row },
-    Group { kinds: &COMPARISONS, is_question: true, length: 2, names: Named::Row },
-    Group { kinds: &[NOT], is_question: true, length: 1, names: Named::Question },
-    Group { kinds: &[BOTH], is_question: true, length: 2, names: Named::Question },
+pub const LISTED: [Group; 8] = [
+    Group { kinds: &CONSTANTS, part: Part::Rows, length: 0, names: Named::Row },
+    Group { kinds: &IF_PREDICATE, part: Part::Rows, length: 1, names: Named::Predicate },
+    Group { kinds: &ON_ONE_ROW, part: Part::Rows, length: 1, names: Named::Row },
+    Group { kinds: &ON_TWO_ROWS, part: Part::Rows, length: 2, names: Named::Row },
+    Group { kinds: &COMPARISONS, part: Part::Questions, length: 2, names: Named::Row },
+    Group { kinds: &[NOT], part: Part::Questions, length: 1, names: Named::Question },
+    Group { kinds: &[BOTH], part: Part::Questions, length: 2, names: Named::Question },
+    Group { kinds: &ON_TWO_PREDICATES, part: Part::Constraints, length: 2, names: Named::Predicate },
 ];
 
 /// Declares the words from one list: each listed kind and the word for it.
 macro_rules! words {
     ($($kind:literal: $word:literal,)*) => {
         /// Every listed kind and its word.
-        pub const WORDS: [(u8, &[u8]); 24] = [$(($kind, $word)),*];
+        pub const WORDS: [(u8, &[u8]); 26] = [$(($kind, $word)),*];
 
         /// The word for a kind, if that is listed.
         pub fn word_of(kind: u8) -> Option<&'static [u8]> {
@@ -92,10 +97,12 @@ words! {
     0x41: b"knowledge-at-or-below",
     0x42: b"not",
     0x43: b"both",
+    0x50: b"never-both",
+    0x51: b"only-if",
 }
 
 /// Kinds that are not listed.
-pub const NOT_LISTED: [u8; 8] = [0x04, 0x0F, 0x12, 0x24, 0x36, 0x3C, 0x44, 0xFF];
+pub const NOT_LISTED: [u8; 10] = [0x04, 0x0F, 0x12, 0x24, 0x36, 0x3C, 0x44, 0x4F, 0x52, 0xFF];
 
 impl Group {
     /// The group of a kind, if that is listed.

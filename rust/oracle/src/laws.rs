@@ -2,15 +2,17 @@
 //!
 //! The laws are the demands of the specification, stated over answers alone:
 //! every request is tried, so they do not depend on how a walk is made or a set
-//! is formed, but for those of equal numbers. Those of reading are tried on given
-//! and on random bytes, and go by the list of kinds in `kinds`, not by the
-//! implementation's own.
+//! is formed, but for those of equal numbers and of the visits of a walk. Those of
+//! reading are tried on given and on random bytes, and go by the list of kinds in
+//! `kinds`, not by the implementation's own.
 
+mod constraints;
 mod equal_numbers;
 mod texts;
 
 pub use self::texts::{check_round_trip, check_text};
 
+use self::constraints::split;
 use crate::call::{Answer, Call};
 use crate::calls::random_call;
 use crate::kinds::{Group, NOT_LISTED};
@@ -29,6 +31,7 @@ pub fn check(answer: &mut dyn FnMut(&[u8], Call) -> Answer, random: &mut Random,
     check_questions(&mut desk, &tried, random);
     check_sets(&mut desk, &tried, random);
     check_strikes(&mut desk, &tried, random);
+    constraints::check(&mut desk, &tried, random);
     equal_numbers::check(&mut desk, &tried, random);
 }
 
@@ -64,6 +67,14 @@ impl Desk<'_> {
         match (self.answer)(bytes, Call::Read) {
             Answer::Counts { rows, questions, .. } => Ok((rows as usize, questions as usize)),
             Answer::Refused(refusal) => Err(refusal),
+            other => panic!("{other:?} for a reading"),
+        }
+    }
+
+    /// How many predicates there are.
+    fn predicates(&mut self, bytes: &[u8]) -> u32 {
+        match (self.answer)(bytes, Call::Read) {
+            Answer::Counts { predicates, .. } => predicates,
             other => panic!("{other:?} for a reading"),
         }
     }
@@ -154,13 +165,14 @@ impl Tried<'_> {
     }
 }
 
-/// A question holds exactly if it is true at every request, and otherwise fails
-/// at the first request at which it is false; a budget below the count of visits
-/// leaves it unfinished, every other one brings the same verdict.
+/// A question holds exactly if it is true at every request within the constraints, and
+/// otherwise fails at the first of these at which it is false; a budget below the count
+/// of visits leaves it unfinished, every other one brings the same verdict.
 fn check_questions(desk: &mut Desk, tried: &Tried, random: &mut Random) {
     let questions = &tried.table.questions;
     let asked: Vec<(u32, [bool; QUESTIONS])> = tried
         .in_order()
+        .filter(|&yes| constraints::are_kept(tried.bytes, yes))
         .map(|yes| (yes, truths(questions, &tried.decided[yes as usize])))
         .collect();
     for question in 0..questions.len() {
@@ -172,9 +184,10 @@ fn check_questions(desk: &mut Desk, tried: &Tried, random: &mut Random) {
             Verdict::Unfinished { .. } => panic!("unfinished with the largest budget"),
         };
         let expected = first_broken.map(|&(yes, _)| yes);
-        assert_eq!(found, expected, "question {question}");
-        assert!((1..2 << tried.predicates).contains(&visits), "{visits} visits");
-        for budget in [0, visits - 1, visits, visits + 1, random.number()] {
+        assert_eq!(found, expected, "question {question}: {:02x?}", tried.bytes);
+        let enough = (2 << tried.predicates) - 1;
+        assert!((1..=enough).contains(&visits), "{visits} visits");
+        for budget in [0, visits - 1, visits, visits + 1, enough, random.number()] {
             let expected = if budget < visits { Verdict::Unfinished { budget } } else { verdict };
             assert_eq!(desk.verdict(tried.bytes, question, budget), expected);
         }
@@ -203,10 +216,12 @@ fn check_sets(desk: &mut Desk, tried: &Tried, random: &mut Random) {
 }
 
 /// Once a row is struck, every other row decides as before under its new number,
-/// and every question has the verdict it had.
+/// every constraint stands where it stood, and every question has the verdict it had.
 fn check_strikes(desk: &mut Desk, tried: &Tried, random: &mut Random) {
     for struck in 0..tried.table.rows.len() {
         if let Some(bytes) = desk.strike(tried.bytes, struck) {
+            let (kept, before) = (split(&bytes).0, split(tried.bytes).0);
+            assert_eq!(kept, before, "{bytes:02x?} of {:02x?}", tried.bytes);
             check_struck_rows(desk, tried, struck, &bytes, random);
             for question in 0..tried.table.questions.len() {
                 let before = desk.verdict(tried.bytes, question, u32::MAX);

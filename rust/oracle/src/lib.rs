@@ -1,5 +1,5 @@
 //! A second implementation of Pierstride's specification, which is document 01
-//! with requests L1 to L3 of document 02 and the words that `docs/WORDS.md` lists.
+//! with requests L1 to L5 of document 02 and the words that `docs/WORDS.md` lists.
 //!
 //! It is written from these alone and as plainly as possible, so that it can be
 //! checked by reading; the library is then compared with it. It uses the library's
@@ -46,6 +46,7 @@ pub use crate::decision::Decision;
 pub use crate::possible::{possible, possible_by, Choice, DecisionSet};
 pub use crate::refusal::{Refusal, OF_READING, OF_READING_A_TEXT};
 pub use crate::strike::{entry, strike};
-pub use crate::table::{read, Table, PREDICATES, QUESTIONS, ROWS, TABLE_BYTES};
+pub use crate::table::{read, Part, Table};
+pub use crate::table::{CONSTRAINTS, PREDICATES, QUESTIONS, ROWS, TABLE_BYTES};
 pub use crate::text::{from_text, to_text, TEXT_BYTES};
 pub use crate::walk::{verdict, verdict_by, Verdict};

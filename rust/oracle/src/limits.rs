@@ -1,25 +1,53 @@
 //! Tables at every limit, and past it.
 
 use crate::kinds::*;
-use crate::{QUESTIONS, ROWS};
+use crate::{CONSTRAINTS, QUESTIONS, ROWS};
 
 /// Tables at every limit of their length, and one past it.
 pub fn tables() -> Vec<Vec<u8>> {
     let mut tables = vec![Vec::new()];
-    tables.extend([ROWS - 1, ROWS, ROWS + 1].map(|rows| counting(rows, 0)));
-    tables.extend([QUESTIONS - 1, QUESTIONS, QUESTIONS + 1].map(|count| counting(1, count)));
+    tables.extend(around(CONSTRAINTS).map(|count| counting(count, 0, 0)));
+    tables.extend(around(ROWS).map(|rows| counting(0, rows, 0)));
+    tables.extend(around(QUESTIONS).map(|count| counting(0, 1, count)));
+    tables.extend(last_constraints());
     tables.extend(around_longest());
     tables
 }
 
-/// So many rows, and so many questions that compare the first with itself.
-fn counting(rows: usize, questions: usize) -> Vec<u8> {
-    [vec![CONSTANTS[1]; rows], [COMPARISONS[1], 0, 0].repeat(questions)].concat()
+fn around(limit: usize) -> [usize; 3] {
+    [limit - 1, limit, limit + 1]
+}
+
+/// So many constraints, so many rows, and so many questions that compare the first row
+/// with itself.
+fn counting(constraints: usize, rows: usize, questions: usize) -> Vec<u8> {
+    [
+        [ONLY_IF, 0, 0].repeat(constraints),
+        vec![CONSTANTS[1]; rows],
+        [COMPARISONS[1], 0, 0].repeat(questions),
+    ]
+    .concat()
+}
+
+/// A 32nd and a 33rd constraint, whole and cut short, in the front and behind a row or a
+/// question.
+fn last_constraints() -> Vec<Vec<u8>> {
+    let before = [
+        counting(CONSTRAINTS - 1, 0, 0),
+        counting(CONSTRAINTS, 0, 0),
+        counting(CONSTRAINTS, 1, 0),
+        counting(CONSTRAINTS, 1, 1),
+    ];
+    let last: [&[u8]; 4] = [&[NEVER_BOTH, 0, 1], &[ONLY_IF, 23, 24], &[NEVER_BOTH, 0], &[ONLY_IF]];
+    let and_then = |before: &Vec<u8>| last.map(|last| [&before[..], last].concat());
+    before.iter().flat_map(and_then).collect()
 }
 
 /// An entry whose numbers lie around their limit.
 #[derive(Debug)]
 pub struct Probe {
+    /// How many constraints stand before the entry.
+    pub constraints: usize,
     /// How many rows stand before the entry.
     pub rows: usize,
     /// How many questions stand before the entry.
@@ -32,7 +60,7 @@ pub struct Probe {
 impl Probe {
     /// What stands before the entry: an accepted table.
     pub fn before(&self) -> Vec<u8> {
-        counting(self.rows, self.questions)
+        counting(self.constraints, self.rows, self.questions)
     }
 
     /// What each number of the body must be below.
@@ -55,20 +83,22 @@ impl Probe {
     }
 }
 
-/// Entries of every kind behind few and behind many rows and questions, each
-/// number of their bodies being 0, the last below its limit, at it, or beyond.
+/// Entries of every kind behind few and behind many constraints, rows and questions,
+/// each number of their bodies being 0, the last below its limit, at it, or beyond.
 pub fn probes() -> Vec<Probe> {
     let mut probes = Vec::new();
     #[rustfmt::skip]
     let counts = [
-        (0, 0), (1, 0), (2, 0), (ROWS - 1, 0), (ROWS, 0),
-        (1, 1), (3, 2), (1, QUESTIONS - 1), (ROWS, QUESTIONS - 1), (2, QUESTIONS),
+        (0, 0, 0), (0, 1, 0), (0, 2, 0), (0, ROWS - 1, 0), (0, ROWS, 0),
+        (0, 1, 1), (0, 3, 2), (0, 1, QUESTIONS - 1), (0, 2, QUESTIONS),
+        (1, 0, 0), (CONSTRAINTS - 1, 0, 0), (CONSTRAINTS, 0, 0), (CONSTRAINTS, 1, 0),
+        (2, 3, 2), (CONSTRAINTS, ROWS, QUESTIONS - 1),
     ];
-    for (rows, questions) in counts {
+    for (constraints, rows, questions) in counts {
         for group in LISTED {
             let numbers = numbers_around(group.limit(rows, questions));
             for &kind in group.kinds {
-                let probe = |body| Probe { rows, questions, group, kind, body };
+                let probe = |body| Probe { constraints, rows, questions, group, kind, body };
                 probes.extend(bodies(&numbers, group.length).into_iter().map(probe));
             }
         }
@@ -99,11 +129,12 @@ fn bodies(numbers: &[u8], length: usize) -> Vec<Vec<u8>> {
         .collect()
 }
 
-/// The longest table there is, what is a byte shorter, and longer inputs. Its
-/// first row can name no row, so it has one byte less than the 960 that 256 rows
+/// The longest table there is, what is a byte shorter, and longer inputs. Its first row
+/// can name no row, so it has one byte less than the 1056 that 32 constraints, 256 rows
 /// and 64 questions of three bytes would take.
 fn around_longest() -> Vec<Vec<u8>> {
-    let mut rows = vec![IF_PREDICATE[1], 23];
+    let mut rows = [NEVER_BOTH, 22, 23].repeat(CONSTRAINTS);
+    rows.extend([IF_PREDICATE[1], 23]);
     for number in 1..ROWS {
         let before = (number - 1) as u8;
         rows.extend([ON_TWO_ROWS[number % ON_TWO_ROWS.len()], before, before / 2]);
@@ -116,6 +147,7 @@ fn around_longest() -> Vec<Vec<u8>> {
         and_then(&[CONSTANTS[0]]),
         and_then(&[0xFF]),
         and_then(&[NOT]),
+        and_then(&[NEVER_BOTH, 0, 1]),
         and_then(&[COMPARISONS[0], 0, 0]),
         and_then(&longest),
         vec![CONSTANTS[3]; 4097],

@@ -1,9 +1,9 @@
 //! The cases of document 01, "From the old desk's notebook", with the places that
-//! document 02, L1, gives to refusals 3 and 4, cases of a row against itself (L3), and
-//! a few beside them of the same kind.
+//! document 02, L1, gives to refusals 3 and 4, cases of a row against itself (L3) and of
+//! constraints (L5), and a few beside them of the same kind.
 
 use crate::call::{Answer, Call, Case};
-use crate::{Refusal, Verdict};
+use crate::{Refusal, Verdict, CONSTRAINTS};
 
 /// The notebook's table A.
 pub const TABLE_A: &str = "11 00 10 01 33 00 01 01 38 02 03 22 02 40 04 05 40 05 04 43 00 01";
@@ -26,7 +26,17 @@ const IMPLIES_ITS_LIKE: &str = "11 00 11 00 34 00 01";
 
 /// Every case of the notebook.
 pub fn cases() -> Vec<Case> {
-    let groups = [operators(), sets(), verdicts(), readings(), strikes(), entries()];
+    let groups = [
+        operators(),
+        sets(),
+        verdicts(),
+        constrained_verdicts(),
+        readings(),
+        constrained_readings(),
+        strikes(),
+        entries(),
+        outside_constraints(),
+    ];
     groups.into_iter().flatten().collect()
 }
 
@@ -107,8 +117,80 @@ fn verdicts() -> Vec<Case> {
     Vec::from(expected.map(case))
 }
 
+/// The question whether a row that grants if predicate 0 is at or below one that is always
+/// unspecified: it is broken where predicate 0 is yes.
+const BROKEN_BY_0: &str = "11 00 00 40 00 01";
+
+/// The same of predicate 1.
+const BROKEN_BY_1: &str = "11 01 00 40 00 01";
+
+/// The same of predicates 0 and 1 together.
+const BROKEN_BY_0_AND_1: &str = "11 00 11 01 30 00 01 00 40 02 03";
+
+/// A question that is never broken, but settled only once predicate 0 is known.
+const UNSETTLED_BY_0: &str = "11 00 20 00 20 01 40 00 02";
+
+/// Constraints, the rest of a table, and the verdict on its question 0.
+fn constrained_verdicts() -> Vec<Case> {
+    let fails = |request, visits| Verdict::Fails { request, visits };
+    let holds = |visits| Verdict::Holds { visits };
+    let expected = [
+        // The two of the request. The first goes on where predicate 0 is yes, settled
+        // false, until predicate 2 is known; where that is no, a visit finds nothing.
+        ("51 00 02", BROKEN_BY_0, fails(5, 6)),
+        ("50 00 00", BROKEN_BY_0, holds(3)),
+        // 51 the other way round: predicate 2 waits for 0, so the request stands.
+        ("51 02 00", BROKEN_BY_0, fails(1, 3)),
+        ("51 01 00", BROKEN_BY_1, fails(3, 7)),
+        ("51 00 01", BROKEN_BY_1, fails(2, 4)),
+        // Two predicates that are no break neither kind.
+        ("50 00 01 51 00 01", BROKEN_BY_1, fails(2, 4)),
+        // A settled-false visit does not wait for a "never both", nor for an "only if"
+        // whose first is no or unknown.
+        ("50 00 01", BROKEN_BY_0, fails(1, 3)),
+        ("51 01 02", BROKEN_BY_0, fails(1, 3)),
+        ("51 00 01", "02 00 40 00 01", fails(0, 1)),
+        // A settled-true visit does not wait.
+        ("51 00 01", UNSETTLED_BY_0, holds(3)),
+        // Nothing is below a visit that breaks a constraint, whatever its set.
+        ("50 00 00", BROKEN_BY_0_AND_1, holds(3)),
+        ("50 00 01", BROKEN_BY_0_AND_1, holds(5)),
+        ("50 00 00", UNSETTLED_BY_0, holds(3)),
+        // What an "only if" waits for is asked, and not taken to be yes.
+        ("51 00 01 50 01 01", BROKEN_BY_0, holds(5)),
+        ("51 00 01 50 00 01", BROKEN_BY_0, holds(5)),
+        ("51 00 02 50 02 01", BROKEN_BY_0, fails(5, 6)),
+        ("51 00 02 51 02 01", BROKEN_BY_0, fails(7, 9)),
+        // Chains: 0 needs 1, 1 needs 2, 2 needs 3; and back, where nothing waits.
+        ("51 00 01 51 01 02 51 02 03", BROKEN_BY_0, fails(15, 9)),
+        ("51 02 03 51 01 02 51 00 01", BROKEN_BY_0, fails(15, 9)),
+        ("51 01 00", BROKEN_BY_0_AND_1, fails(3, 5)),
+        // A constraint with one predicate twice.
+        ("51 00 00", BROKEN_BY_0, fails(1, 3)),
+        ("50 01 01", BROKEN_BY_0, fails(1, 3)),
+        // Only the request without a yes is left, and keeps the question or breaks it.
+        ("50 00 00 51 01 00", BROKEN_BY_1, holds(5)),
+        ("50 00 00 51 01 00", "11 01 02 40 01 00", fails(0, 3)),
+        // A predicate far beyond the row's.
+        ("51 00 17", BROKEN_BY_0, fails(1 << 23 | 1, 27)),
+    ];
+    let case = |(constraints, rest, verdict)| {
+        let call = Call::Verdict { question: 0, budget: u32::MAX };
+        (hex(&format!("{constraints} {rest}")), call, Answer::Verdict(verdict))
+    };
+    let mut cases = Vec::from(expected.map(case));
+    for (budget, verdict) in [(5, Verdict::Unfinished { budget: 5 }), (6, fails(5, 6))] {
+        let call = Call::Verdict { question: 0, budget };
+        cases.push((hex("51 00 02 11 00 00 40 00 01"), call, Answer::Verdict(verdict)));
+    }
+    cases
+}
+
+fn counts(rows: u32, questions: u32, predicates: u32) -> Answer {
+    Answer::Counts { rows, questions, predicates }
+}
+
 fn readings() -> Vec<Case> {
-    let counts = |rows, questions, predicates| Answer::Counts { rows, questions, predicates };
     let comparisons = |count| [hex("00"), hex("40 00 00").repeat(count)].concat();
     let expected = [
         (hex(TABLE_A), counts(6, 3, 2)),
@@ -134,21 +216,106 @@ fn readings() -> Vec<Case> {
     Vec::from(expected.map(|(table, answer)| (table, Call::Read, answer)))
 }
 
+fn constrained_readings() -> Vec<Case> {
+    let most = hex("50 00 01").repeat(CONSTRAINTS);
+    let behind_most = |line| [&most[..], &hex(line)].concat();
+    let expected = [
+        // They are no rows and no questions, but n counts their predicates.
+        (hex("50 00 01"), counts(0, 0, 2)),
+        (hex("51 05 02"), counts(0, 0, 6)),
+        (hex("51 02 17"), counts(0, 0, 24)),
+        (hex("50 17 00"), counts(0, 0, 24)),
+        (hex("50 17 17 51 17 17"), counts(0, 0, 24)),
+        (hex("50 03 01 11 02"), counts(1, 0, 4)),
+        (hex("51 00 02 11 05 00 40 00 01"), counts(2, 1, 6)),
+        // The first number that is no predicate.
+        (hex("50 18 00"), refused(3, 1)),
+        (hex("50 00 18"), refused(3, 2)),
+        (hex("51 18 18"), refused(3, 1)),
+        (hex("51 17 FF"), refused(3, 2)),
+        (hex("51 00 00 50 00 18"), refused(3, 5)),
+        // Cut short, before that.
+        (hex("50"), refused(2, 0)),
+        (hex("51 18"), refused(2, 0)),
+        (hex("50 00 00 51 00"), refused(2, 3)),
+        // Behind a row or a question, before that.
+        (hex("00 50 00 00"), refused(5, 1)),
+        (hex("00 51 18 18"), refused(5, 1)),
+        (hex("00 51"), refused(5, 1)),
+        (hex("00 40 00 00 50 00 00"), refused(5, 4)),
+        (hex("51 00 00 00 40 00 00 51 00"), refused(5, 7)),
+        (hex("51 00 00 00 40 00 00 00"), refused(5, 7)),
+        // As many as there may be, and one more.
+        (most.clone(), counts(0, 0, 2)),
+        (behind_most("00 40 00 00"), counts(1, 1, 2)),
+        (behind_most("50 00 01"), refused(14, 96)),
+        (behind_most("51 18 18"), refused(14, 96)),
+        (behind_most("51 00"), refused(14, 96)),
+        (behind_most("50"), refused(14, 96)),
+        (behind_most("52"), refused(1, 96)),
+        (behind_most("00 50 00 01"), refused(5, 97)),
+        (behind_most("00 51"), refused(5, 97)),
+        (behind_most("00 40 00 00 50"), refused(5, 100)),
+        (most[3..].to_vec(), counts(0, 0, 2)),
+        ([&most[3..], &hex("51 00 17")].concat(), counts(0, 0, 24)),
+        // Beside their kinds.
+        (hex("4F"), refused(1, 0)),
+        (hex("52 00 00"), refused(1, 0)),
+        (hex("50 00 00 42 00"), refused(4, 4)),
+    ];
+    Vec::from(expected.map(|(table, answer)| (table, Call::Read, answer)))
+}
+
+/// Strikes of a row, with as much room as the table is long.
 fn strikes() -> Vec<Case> {
-    let expected =
-        [(0, Answer::Written(hex("02 20 00 40 00 01"))), (1, refused(9, 0)), (3, refused(8, 0))];
-    let case = |(row, answer)| (hex(STRIKING), Call::Strike { row, room: 6 }, answer);
+    let written = |table| Answer::Written(hex(table));
+    let expected = [
+        (STRIKING, 0, written("02 20 00 40 00 01")),
+        (STRIKING, 1, refused(9, 0)),
+        (STRIKING, 3, refused(8, 0)),
+        // Constraints stay as they are: their numbers are those of predicates.
+        (
+            "50 00 01 51 05 01 00 02 20 01 40 01 02",
+            0,
+            written("50 00 01 51 05 01 02 20 00 40 00 01"),
+        ),
+        ("50 00 01 51 05 01 00 02 20 01 40 01 02", 1, refused(9, 0)),
+        ("50 00 01 51 05 01 00 02 20 01 40 01 02", 3, refused(8, 0)),
+        ("51 00 00 11 17", 0, written("51 00 00")),
+        ("51 00 00", 0, refused(8, 0)),
+    ];
+    let case = |(table, row, answer)| {
+        let table = hex(table);
+        let room = table.len();
+        (table, Call::Strike { row, room }, answer)
+    };
     Vec::from(expected.map(case))
 }
 
 fn entries() -> Vec<Case> {
     let expected = [
-        (0, Answer::Entry(0..2)),
-        (2, Answer::Entry(4..7)),
-        (3, Answer::Entry(7..8)),
-        (5, Answer::Entry(11..13)),
-        (6, refused(8, 0)),
+        (TABLE_A, 0, Answer::Entry(0..2)),
+        (TABLE_A, 2, Answer::Entry(4..7)),
+        (TABLE_A, 3, Answer::Entry(7..8)),
+        (TABLE_A, 5, Answer::Entry(11..13)),
+        (TABLE_A, 6, refused(8, 0)),
+        // Constraints are no rows.
+        ("50 00 01 51 05 01 11 00 03", 0, Answer::Entry(6..8)),
+        ("50 00 01 51 05 01 11 00 03", 1, Answer::Entry(8..9)),
+        ("50 00 01 51 05 01 11 00 03", 2, refused(8, 0)),
+        ("50 00 01", 0, refused(8, 0)),
     ];
-    let case = |(row, answer)| (hex(TABLE_A), Call::Entry { row }, answer);
+    let case = |(table, row, answer)| (hex(table), Call::Entry { row }, answer);
     Vec::from(expected.map(case))
+}
+
+/// Deciding, and the sets, do not look at constraints.
+fn outside_constraints() -> Vec<Case> {
+    let never_0 = || hex("50 00 00 51 00 01 11 00");
+    vec![
+        (never_0(), Call::Decide { row: 0, yes: 1 }, Answer::Code(2)),
+        (never_0(), Call::Decide { row: 0, yes: 0xFF_FFFF }, Answer::Code(2)),
+        (never_0(), Call::Possible { row: 0, known: 0, yes: 0 }, Answer::Set(5)),
+        (never_0(), Call::Possible { row: 0, known: 1, yes: 1 }, Answer::Set(4)),
+    ]
 }

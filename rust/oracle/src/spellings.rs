@@ -1,5 +1,5 @@
-//! The cases of document 02, L2: texts, and what reading and writing them must
-//! answer. Each is written out by hand.
+//! The cases of document 02, L2, with the words of L5: texts, and what reading and
+//! writing them must answer. Each is written out by hand.
 
 use crate::call::{Answer, Call, Case};
 use crate::notebook::{hex, TABLE_A};
@@ -20,10 +20,12 @@ both 0 1
 
 /// A table with every kind once, and its text.
 const EVERY_KIND: (&str, &str) = (
-    "00 01 02 03 10 17 11 00 20 00 21 01 22 02 23 03 \
+    "50 00 17 51 0A 09 00 01 02 03 10 17 11 00 20 00 21 01 22 02 23 03 \
      30 08 09 31 09 08 32 00 00 33 01 02 34 0A 0B 35 0C 0D \
      38 0E 0F 39 01 10 3A 02 11 3B 12 03 40 13 00 41 00 13 42 01 43 02 01",
     "\
+never-both 0 23
+only-if 10 9
 unspecified
 deny
 grant
@@ -74,6 +76,9 @@ fn tables() -> Vec<Case> {
         (hex(""), String::new()),
         (hex("00"), "unspecified\n".to_string()),
         (hex("11 17"), "grant-if 23\n".to_string()),
+        (hex("50 07 07"), "never-both 7 7\n".to_string()),
+        (hex("51 17 00 00"), "only-if 23 0\nunspecified\n".to_string()),
+        (hex("50 00 17").repeat(32), "never-both 0 23\n".repeat(32)),
         (hex(TABLE_A), TEXT_A.to_string()),
         (hex(EVERY_KIND.0), EVERY_KIND.1.to_string()),
         (rows(256), "conflict\n".repeat(256) + questions),
@@ -91,7 +96,7 @@ fn tables() -> Vec<Case> {
 /// Lines that are refused with 12: the word is unknown, or a number is above 255,
 /// wherever on the line it stands.
 #[rustfmt::skip]
-const UNKNOWN: [&str; 76] = [
+const UNKNOWN: [&str; 83] = [
     // A number above 255 goes before every other slip, and is above it by value.
     "deny 300\n", "deny-if  300\n", "deny-if x 300\n", "deny-if 0300\n", "deny-if 4294967297\n",
     // At the limit, and at the limits of a machine's numbers.
@@ -110,6 +115,8 @@ const UNKNOWN: [&str; 76] = [
     "deny-\n", "deny_if 3\n", "denyif 3\n", "deny-If 3\n", "deny-i 3\n", "eny\n", "deny-if-3\n",
     "nor 0\n", "override 0 0\n", "truth-at-or-above 0 0\n", "unspecifie\n", "unspec\n",
     "neg 0\n", "u\n", "xyz", " ",
+    "never 0 1\n", "never-bot 0 1\n", "neverboth 0 1\n", "only 0 1\n", "only-iff 0 1\n",
+    "Only-if 0 1\n", "never-both 0 256\n",
     "unknown 0300 x\n", "unknown 03\n",
     // Space and line feed alone separate.
     "deny\r\n", "deny\t\n", "\tdeny\n", "deny-if\t3\n", "deny-if\r 3\n", "\r\n", "deny\0\n",
@@ -119,7 +126,7 @@ const UNKNOWN: [&str; 76] = [
 
 /// Lines that are refused with 13.
 #[rustfmt::skip]
-const MISSPELT: [&str; 61] = [
+const MISSPELT: [&str; 67] = [
     // A leading zero.
     "deny-if 03\n", "deny-if 00\n", "deny-if 000\n", "deny-if 023\n", "deny-if 0255\n",
     "deny-if 00000000000000000000000000003\n", "truth-meet 00 0\n", "truth-meet 0 00\n",
@@ -133,7 +140,8 @@ const MISSPELT: [&str; 61] = [
     // A number too many or too few.
     "deny 3\n", "deny 0\n", "deny-if\n", "deny-if 3 4\n", "truth-meet\n", "truth-meet 0\n",
     "truth-meet 0 0 0\n", "not\n", "not 0 0\n", "both 0\n", "both 0 0 0\n", "negation\n",
-    "truth-at-or-below 0\n", "grant 255 255\n",
+    "truth-at-or-below 0\n", "grant 255 255\n", "never-both 0\n", "only-if\n",
+    "only-if 0 1 2\n", "never-both 0 01\n", "only-if 0  1\n", "never-both 0 1",
     // A missing line feed.
     "deny", "deny-if 3", "deny-if 23", "truth-meet 0 0", "deny-if 24", "deny-if 03", "deny ",
     // Space and line feed alone separate.
@@ -207,6 +215,12 @@ fn entries() -> Vec<Case> {
         ("deny\ntruth-at-or-below 0 0\ndeny\n", refused(5, 3)),
         ("deny\ntruth-at-or-below 0 0\ndeny-if 24\n", refused(5, 3)),
         ("deny\ntruth-at-or-below 0 0\nnot 0\nnegation 9\nnot 9\n", refused(5, 4)),
+        ("never-both 24 0\n", refused(3, 1)),
+        ("only-if 0 0\nonly-if 0 255\n", refused(3, 2)),
+        ("deny\nnever-both 0 1\n", refused(5, 2)),
+        ("only-if 0 1\ndeny\nonly-if 24 24\n", refused(5, 3)),
+        ("deny\ntruth-at-or-below 0 0\nonly-if 0 1\n", refused(5, 3)),
+        ("only-if 0 1\nnegation 0\n", refused(4, 2)),
     ];
     let mut cases: Vec<Case> = cases.map(|(text, answer)| reading(text, answer)).into();
     let (rows, questions) = ("unspecified\n".repeat(256), "truth-at-or-below 0 0\n".repeat(64));
@@ -215,6 +229,12 @@ fn entries() -> Vec<Case> {
     cases.push(reading(rows.clone() + &questions + "not 0\n", refused(7, 321)));
     cases.push(reading(rows + &questions + "deny\n", refused(5, 321)));
     cases.push(reading("unspecified\n".to_string() + &questions + "not 255\n", refused(7, 66)));
+    let constraints = "only-if 0 1\n".repeat(32);
+    cases.push(reading(constraints.clone() + "never-both 0 1\n", refused(14, 33)));
+    cases.push(reading(constraints.clone() + "never-both 24 24\n", refused(14, 33)));
+    cases.push(reading(constraints.clone() + "deny\nnever-both 0 1\n", refused(5, 34)));
+    cases.push(reading(constraints.clone() + "deny\nonly-if 0\n", refused(13, 34)));
+    cases.push(reading(constraints + "only-if 0 256\n", refused(12, 33)));
     cases
 }
 
@@ -254,6 +274,8 @@ fn refused_tables() -> Vec<Case> {
         ("20 00", refused(4, 1)),
         ("00 30 00 05", refused(4, 3)),
         ("00 40 00 00 00", refused(5, 4)),
+        ("00 50 00 00", refused(5, 1)),
+        ("51 00 18", refused(3, 2)),
     ];
     let rooms = [0, TEXT_BYTES];
     let case = |(table, answer): (&str, Answer)| {
@@ -263,5 +285,6 @@ fn refused_tables() -> Vec<Case> {
     cases.push((vec![0; 257], Call::ToText { room: 0 }, refused(6, 256)));
     let comparisons = [hex("00"), hex("40 00 00").repeat(65)].concat();
     cases.push((comparisons, Call::ToText { room: 0 }, refused(7, 193)));
+    cases.push((hex("50 00 00").repeat(33), Call::ToText { room: 0 }, refused(14, 96)));
     cases
 }

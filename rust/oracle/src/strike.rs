@@ -7,24 +7,27 @@ use crate::table::{entries, read, Entry};
 
 /// Where the bytes of row `row` lie in the table.
 pub fn entry(bytes: &[u8], row: u32) -> Result<Range<usize>, Refusal> {
-    let row = read(bytes)?.find_row(row)?;
-    Ok(place_of(bytes, row))
+    let table = read(bytes)?;
+    let row = table.find_row(row)?;
+    Ok(place_of(bytes, table.entry_of_row(row)))
 }
 
 /// Writes the table without row `row` to the front of `out` and answers how
 /// many bytes that took.
 pub fn strike(bytes: &[u8], row: u32, out: &mut [u8]) -> Result<usize, Refusal> {
-    let row = read(bytes)?.find_row(row)?;
+    let table = read(bytes)?;
+    let row = table.find_row(row)?;
     if entries(bytes).any(|entry| entry.names(row)) {
         return Err(Refusal::of_request(ROW_IS_NAMED));
     }
-    let need = bytes.len() - place_of(bytes, row).len();
+    let struck = table.entry_of_row(row);
+    let need = bytes.len() - place_of(bytes, struck).len();
     if out.len() < need {
         return Err(Refusal::of_request(OUTPUT_TOO_SHORT));
     }
     let mut end = 0;
     for (number, entry) in entries(bytes).enumerate() {
-        if number != row {
+        if number != struck {
             end += entry.write_without(row, &mut out[end..]);
         }
     }
@@ -51,10 +54,10 @@ impl Entry<'_> {
     }
 }
 
-/// Where row `row`, which is there, lies.
-fn place_of(bytes: &[u8], row: usize) -> Range<usize> {
+/// Where entry `number`, which is there, lies.
+fn place_of(bytes: &[u8], number: usize) -> Range<usize> {
     let mut lengths = entries(bytes).map(|entry| entry.bytes.len());
-    let start = lengths.by_ref().take(row).sum();
+    let start = lengths.by_ref().take(number).sum();
     let length = lengths.next().unwrap_or(0);
     start..start + length
 }

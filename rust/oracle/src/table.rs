@@ -1,20 +1,35 @@
 //! The table: its kinds of entry, its limits, and reading it from bytes.
+//!
+//! Document 02, L5, adds to the rows and questions two kinds of entries "before all
+//! rows". They say which requests cannot occur and are called constraints here.
 
 use crate::decision::{Binary, Decision, Order, Unary};
 use crate::refusal::{self, Refusal};
 
 /// The most predicates a table may use: they are numbered 0 to 23.
 pub const PREDICATES: usize = 24;
+/// The most constraints a table may have, of both kinds together.
+pub const CONSTRAINTS: usize = 32;
 /// The most rows a table may have.
 pub const ROWS: usize = 256;
 /// The most questions a table may have.
 pub const QUESTIONS: usize = 64;
 /// So many bytes are always enough for a table.
-pub const TABLE_BYTES: usize = 3 * (ROWS + QUESTIONS);
+pub const TABLE_BYTES: usize = 3 * (CONSTRAINTS + ROWS + QUESTIONS);
+
+/// The parts of a table, in their order: each entry stands in one of them.
+#[derive(Clone, Copy, Debug, PartialEq, Eq)]
+pub enum Part {
+    Constraints,
+    Rows,
+    Questions,
+}
 
 /// What the first byte of an entry says about it.
 #[derive(Clone, Copy, Debug)]
 pub enum Kind {
+    NeverBoth,
+    OnlyIf,
     Always(Decision),
     When(Decision),
     Unary(Unary),
@@ -52,6 +67,8 @@ impl Kind {
             0x41 => Kind::Compare(Order::Knowledge),
             0x42 => Kind::Not,
             0x43 => Kind::Both,
+            0x50 => Kind::NeverBoth,
+            0x51 => Kind::OnlyIf,
             _ => return None,
         })
     }
@@ -62,6 +79,7 @@ impl Kind {
             Kind::Always(_) => 0,
             Kind::When(_) | Kind::Unary(_) | Kind::Not => 1,
             Kind::Binary(_) | Kind::Compare(_) | Kind::Both => 2,
+            Kind::NeverBoth | Kind::OnlyIf => 2,
         }
     }
 
@@ -70,8 +88,29 @@ impl Kind {
         matches!(self, Kind::Unary(_) | Kind::Binary(_) | Kind::Compare(_))
     }
 
-    fn is_question(self) -> bool {
-        matches!(self, Kind::Compare(_) | Kind::Not | Kind::Both)
+    fn part(self) -> Part {
+        match self {
+            Kind::NeverBoth | Kind::OnlyIf => Part::Constraints,
+            Kind::Always(_) | Kind::When(_) | Kind::Unary(_) | Kind::Binary(_) => Part::Rows,
+            Kind::Compare(_) | Kind::Not | Kind::Both => Part::Questions,
+        }
+    }
+}
+
+/// A constraint as read, of two predicates.
+#[derive(Clone, Copy, Debug)]
+pub enum Constraint {
+    /// The two are never both yes.
+    NeverBoth(u8, u8),
+    /// The first is yes only if the second is.
+    OnlyIf(u8, u8),
+}
+
+impl Constraint {
+    fn predicates(self) -> [u8; 2] {
+        match self {
+            Constraint::NeverBoth(p, q) | Constraint::OnlyIf(p, q) => [p, q],
+        }
     }
 }
 
@@ -95,22 +134,28 @@ pub enum Question {
 /// A table as read: what it says, without where its bytes lay.
 #[derive(Clone, Debug)]
 pub struct Table {
+    pub constraints: Vec<Constraint>,
     pub rows: Vec<Row>,
     pub questions: Vec<Question>,
 }
 
 impl Table {
     pub(crate) fn empty() -> Table {
-        Table { rows: Vec::with_capacity(ROWS), questions: Vec::with_capacity(QUESTIONS) }
+        Table {
+            constraints: Vec::with_capacity(CONSTRAINTS),
+            rows: Vec::with_capacity(ROWS),
+            questions: Vec::with_capacity(QUESTIONS),
+        }
     }
 
-    /// n: one more than the highest predicate that any row uses, or 0.
+    /// n: one more than the highest predicate that any constraint or row uses, or 0.
     pub fn predicates(&self) -> u32 {
-        let used = self.rows.iter().filter_map(|row| match *row {
-            Row::When(predicate, _) => Some(u32::from(predicate) + 1),
+        let of_constraints = self.constraints.iter().flat_map(|constraint| constraint.predicates());
+        let of_rows = self.rows.iter().filter_map(|row| match *row {
+            Row::When(predicate, _) => Some(predicate),
             _ => None,
         });
-        used.max().unwrap_or(0)
+        of_constraints.chain(of_rows).max().map_or(0, |highest| u32::from(highest) + 1)
     }
 
     /// Refuses with 8 unless there is a row `number`.
@@ -121,6 +166,11 @@ impl Table {
     /// Refuses with 8 unless there is a question `number`.
     pub fn find_question(&self, number: u32) -> Result<usize, Refusal> {
         find(number, self.questions.len())
+    }
+
+    /// Which entry of the table row `row` is: the rows follow the constraints.
+    pub fn entry_of_row(&self, row: usize) -> usize {
+        self.constraints.len() + row
     }
 
     /// Reads the entry whose kind byte is at `place` and answers where it ends.
@@ -135,17 +185,22 @@ impl Table {
         Ok(end)
     }
 
+    /// May an entry of this kind follow what was read so far? Of the refusals 5, 6, 7
+    /// and 14, the first that is due.
     fn check_room_for(&self, kind: Kind) -> Result<(), u32> {
-        if kind.is_question() {
-            if self.questions.len() == QUESTIONS {
-                return Err(refusal::TOO_MANY_QUESTIONS);
+        let (has_rows, has_questions) = (!self.rows.is_empty(), !self.questions.is_empty());
+        match kind.part() {
+            Part::Constraints if has_rows || has_questions => Err(refusal::OUT_OF_ORDER),
+            Part::Rows if has_questions => Err(refusal::OUT_OF_ORDER),
+            Part::Rows if self.rows.len() == ROWS => Err(refusal::TOO_MANY_ROWS),
+            Part::Questions if self.questions.len() == QUESTIONS => {
+                Err(refusal::TOO_MANY_QUESTIONS)
             }
-        } else if !self.questions.is_empty() {
-            return Err(refusal::ROW_AFTER_QUESTION);
-        } else if self.rows.len() == ROWS {
-            return Err(refusal::TOO_MANY_ROWS);
+            Part::Constraints if self.constraints.len() == CONSTRAINTS => {
+                Err(refusal::TOO_MANY_CONSTRAINTS)
+            }
+            _ => Ok(()),
         }
-        Ok(())
     }
 
     /// Adds the entry of this kind and body, of the kind's length.
@@ -157,6 +212,10 @@ impl Table {
         let row = |at| body.below(rows, at, refusal::MAY_NOT_BE_NAMED);
         let question = |at| body.below(questions, at, refusal::MAY_NOT_BE_NAMED);
         match kind {
+            Kind::NeverBoth => {
+                self.constraints.push(Constraint::NeverBoth(predicate(0)?, predicate(1)?))
+            }
+            Kind::OnlyIf => self.constraints.push(Constraint::OnlyIf(predicate(0)?, predicate(1)?)),
             Kind::Always(decision) => self.rows.push(Row::Always(decision)),
             Kind::When(decision) => self.rows.push(Row::When(predicate(0)?, decision)),
             Kind::Unary(operator) => self.rows.push(Row::Unary(operator, row(0)?)),
@@ -201,7 +260,7 @@ impl Body<'_> {
     }
 }
 
-/// Reads a whole table, or refuses with one of 1 to 7 at the first bad entry.
+/// Reads a whole table, or refuses with one of 1 to 7 and 14 at the first bad entry.
 pub fn read(bytes: &[u8]) -> Result<Table, Refusal> {
     let mut table = Table::empty();
     let mut place = 0;
@@ -219,8 +278,7 @@ pub struct Entry<'a> {
     pub bytes: &'a [u8],
 }
 
-/// The entries of a table that has been read without a refusal. Rows come
-/// before questions, so row r is also entry r.
+/// The entries of a table that has been read without a refusal.
 pub fn entries(bytes: &[u8]) -> impl Iterator<Item = Entry<'_>> {
     let mut rest = bytes;
     std::iter::from_fn(move || {

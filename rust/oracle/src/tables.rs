@@ -6,13 +6,17 @@ use crate::crafted::{rows_of_every_set, ROWS_OF_EVERY_SET};
 use crate::kinds::*;
 use crate::limits::{self, Probe};
 use crate::random::Random;
-use crate::{possible_by, Choice, PREDICATES, ROWS};
+use crate::{possible_by, read, verdict, Choice, Verdict, CONSTRAINTS, PREDICATES, ROWS};
 
 /// What a random table is to look like.
 pub struct Shape {
+    /// How many constraints there are: one of these. Without any of them there is none,
+    /// and nothing is drawn.
+    pub constraints: &'static [usize],
     pub rows: RangeInclusive<usize>,
     pub questions: RangeInclusive<usize>,
-    /// How many predicates there are to draw from.
+    /// How many predicates there are for rows to draw from; constraints draw from a few
+    /// more.
     pub predicates: RangeInclusive<usize>,
     /// How many of a hundred rows name no row.
     pub leaves: usize,
@@ -28,6 +32,7 @@ pub struct Shape {
 
 /// The empty table, and what the shapes below take from here.
 pub const EMPTY: Shape = Shape {
+    constraints: &[],
     rows: 0..=0,
     questions: 0..=0,
     predicates: 0..=0,
@@ -37,47 +42,58 @@ pub const EMPTY: Shape = Shape {
     every_set: 0,
 };
 
+/// So many predicates beyond those of rows constraints draw from, if there are so many.
+const BEYOND: usize = 2;
+
+/// Often without constraints, else mostly with few: with many of them on few predicates
+/// hardly any request is left.
+const LIMITED: Shape = Shape { constraints: &[0, 0, 0, 1, 2, 3, 5, 8], ..EMPTY };
+
+/// From no constraint to as many as there may be.
+const STRICT: Shape =
+    Shape { constraints: &[0, 0, 1, 3, 10, 20, CONSTRAINTS - 1, CONSTRAINTS], ..EMPTY };
+
 /// Tables small enough to try every request.
 pub const SMALL: Shape =
-    Shape { rows: 1..=12, questions: 1..=6, predicates: 0..=8, leaves: 40, repeats: 40, ..EMPTY };
+    Shape { rows: 1..=12, questions: 1..=6, predicates: 0..=6, leaves: 40, repeats: 40, ..LIMITED };
 
 /// The same, with every set.
 #[rustfmt::skip]
 pub const SMALL_WITH_SETS: Shape =
-    Shape { rows: 28..=36, questions: 1..=6, predicates: 1..=4, leaves: 15, repeats: 70, every_set: 100, ..EMPTY };
+    Shape { rows: 28..=36, questions: 1..=6, predicates: 1..=4, leaves: 15, repeats: 70, every_set: 100, ..LIMITED };
 
 /// Tables to walk in full, though they are too large to try every request.
 pub const WALKED: Shape =
-    Shape { rows: 10..=24, questions: 1..=3, predicates: 9..=12, repeats: 20, ..EMPTY };
+    Shape { rows: 10..=24, questions: 1..=3, predicates: 9..=12, repeats: 20, ..LIMITED };
 
 /// The same, with every set.
 #[rustfmt::skip]
 pub const WALKED_WITH_SETS: Shape =
-    Shape { rows: 30..=50, questions: 1..=3, predicates: 9..=12, leaves: 15, repeats: 50, every_set: 100, ..EMPTY };
+    Shape { rows: 30..=50, questions: 1..=3, predicates: 9..=12, leaves: 15, repeats: 50, every_set: 100, ..LIMITED };
 
 /// Tables for single calls, with every set.
 #[rustfmt::skip]
 const WITH_SETS: Shape =
-    Shape { rows: 40..=80, questions: 4..=12, predicates: 1..=10, leaves: 15, repeats: 70, every_set: 100, ..EMPTY };
+    Shape { rows: 40..=80, questions: 4..=12, predicates: 1..=10, leaves: 15, repeats: 70, every_set: 100, ..LIMITED };
 
 /// Shapes of tables for single calls.
 #[rustfmt::skip]
 pub const SHAPES: [Shape; 9] = [
     // tiny
-    Shape { rows: 0..=4, questions: 0..=3, predicates: 0..=3, repeats: 30, ..EMPTY },
+    Shape { rows: 0..=4, questions: 0..=3, predicates: 0..=3, repeats: 30, ..LIMITED },
     SMALL,
     // deep
-    Shape { rows: 20..=60, questions: 0..=4, predicates: 1..=10, leaves: 10, reach: 2, repeats: 20, ..EMPTY },
+    Shape { rows: 20..=60, questions: 0..=4, predicates: 1..=10, leaves: 10, reach: 2, repeats: 20, ..STRICT },
     // wide
-    Shape { rows: 20..=60, questions: 0..=4, predicates: 4..=24, leaves: 80, repeats: 30, ..EMPTY },
+    Shape { rows: 20..=60, questions: 0..=4, predicates: 4..=24, leaves: 80, repeats: 30, ..STRICT },
     // many questions
-    Shape { rows: 1..=6, questions: 40..=64, predicates: 1..=6, repeats: 30, ..EMPTY },
+    Shape { rows: 1..=6, questions: 40..=64, predicates: 1..=6, repeats: 30, ..LIMITED },
     // few predicates
-    Shape { rows: 10..=40, questions: 1..=8, predicates: 1..=2, leaves: 25, reach: 8, repeats: 30, ..EMPTY },
+    Shape { rows: 10..=40, questions: 1..=8, predicates: 1..=2, leaves: 25, reach: 8, repeats: 30, ..LIMITED },
     // every predicate
-    Shape { rows: 30..=90, questions: 1..=8, predicates: 24..=24, leaves: 45, repeats: 30, every_set: 50, ..EMPTY },
+    Shape { rows: 30..=90, questions: 1..=8, predicates: 24..=24, leaves: 45, repeats: 30, every_set: 50, ..STRICT },
     // nearly full, and full
-    Shape { rows: 250..=256, questions: 60..=64, predicates: 0..=24, leaves: 20, repeats: 20, every_set: 50, ..EMPTY },
+    Shape { rows: 250..=256, questions: 60..=64, predicates: 0..=24, leaves: 20, repeats: 20, every_set: 50, ..STRICT },
     WITH_SETS,
 ];
 
@@ -101,7 +117,43 @@ pub fn table(random: &mut Random, shape: &Shape) -> Vec<u8> {
     for number in 0..questions {
         push_question(random, number, rows, &mut bytes);
     }
+    if !shape.constraints.is_empty() {
+        let count = random.pick(shape.constraints);
+        bytes = [constraints(random, count, predicates, &bytes), bytes].concat();
+    }
     bytes
+}
+
+/// So many constraints to stand before the rest of a table. Every other one, as far as
+/// there is such, forbids a request that is the first to break a question.
+fn constraints(random: &mut Random, count: usize, predicates: usize, rest: &[u8]) -> Vec<u8> {
+    let from = PREDICATES.min(predicates + BEYOND) as u8;
+    let forbidden = if count == 0 { 0 } else { breaking_request(random, rest) };
+    let (yes, no): (Vec<u8>, Vec<u8>) = (0..from).partition(|p| forbidden >> p & 1 == 1);
+    let every: Vec<u8> = (0..from).collect();
+    let constraint = |_| match random.below(4) {
+        0 if !yes.is_empty() => [NEVER_BOTH, random.pick(&yes), random.pick(&yes)],
+        1 if !yes.is_empty() && !no.is_empty() => [ONLY_IF, random.pick(&yes), random.pick(&no)],
+        _ => {
+            let kind = random.pick(&[NEVER_BOTH, ONLY_IF, ONLY_IF]);
+            [kind, random.pick(&every), random.pick(&every)]
+        }
+    };
+    (0..count).flat_map(constraint).collect()
+}
+
+/// How many questions are asked for a request that breaks one, and with which budget.
+const ASKED: usize = 8;
+const BUDGET: u32 = 40;
+
+/// The first request that breaks some question, with a yes in it; 0 if none is found.
+fn breaking_request(random: &mut Random, bytes: &[u8]) -> u32 {
+    let questions = read(bytes).map_or(0, |table| table.questions.len());
+    let ask = |_| match verdict(bytes, random.below(questions) as u32, BUDGET) {
+        Ok(Verdict::Fails { request, .. }) if request != 0 => Some(request),
+        _ => None,
+    };
+    (0..ASKED).find_map(ask).unwrap_or(0)
 }
 
 fn push_leaf(random: &mut Random, predicates: usize, bytes: &mut Vec<u8>) {
@@ -131,16 +183,16 @@ fn push_operator(random: &mut Random, number: usize, shape: &Shape, bytes: &mut 
     bytes.extend(body);
 }
 
-/// Of some numbers drawn the first that is asked for, or else the last.
-fn first_that(is_asked_for: impl Fn(u8) -> bool, mut draw: impl FnMut() -> u8) -> u8 {
-    let mut number = draw();
+/// Of some that are drawn the first that is asked for, or else the last.
+fn first_that<T: Copy>(is_asked_for: impl Fn(T) -> bool, mut draw: impl FnMut() -> T) -> T {
+    let mut drawn = draw();
     for _ in 1..12 {
-        if is_asked_for(number) {
+        if is_asked_for(drawn) {
             break;
         }
-        number = draw();
+        drawn = draw();
     }
-    number
+    drawn
 }
 
 /// Has this row, with nothing known, another set by L3 than by document 01?
@@ -150,23 +202,46 @@ fn differs(bytes: &[u8], row: usize) -> bool {
 }
 
 fn push_question(random: &mut Random, number: usize, rows: usize, bytes: &mut Vec<u8>) {
-    let compares = number == 0 || random.one_in(2);
-    let nameable = if compares { rows } else { number };
-    let (a, other) = (random.below(nameable) as u8, random.below(nameable) as u8);
-    let b = if random.one_in(8) { a } else { other };
-    if compares {
-        bytes.extend([random.pick(&COMPARISONS), a, b]);
+    if number == 0 || random.one_in(2) {
+        let stays_open = |question: [u8; 3]| is_open(&[&bytes[..], &question].concat(), number);
+        let question = if random.one_in(3) {
+            first_that(stays_open, || comparison(random, rows))
+        } else {
+            comparison(random, rows)
+        };
+        bytes.extend(question);
     } else if random.one_in(2) {
-        bytes.extend([NOT, a]);
+        bytes.extend([NOT, random.below(number) as u8]);
     } else {
+        let [a, b] = pair(random, number);
         bytes.extend([BOTH, a, b]);
     }
+}
+
+fn comparison(random: &mut Random, rows: usize) -> [u8; 3] {
+    let [a, b] = pair(random, rows);
+    [random.pick(&COMPARISONS), a, b]
+}
+
+/// Two numbers below `bound`, equal ones in a fifth of all cases and by chance.
+fn pair(random: &mut Random, bound: usize) -> [u8; 2] {
+    let (a, other) = (random.below(bound) as u8, random.below(bound) as u8);
+    [a, if random.one_in(5) { a } else { other }]
+}
+
+/// Is this question neither settled at once nor broken by the request without a yes, which
+/// no constraint forbids?
+fn is_open(bytes: &[u8], question: usize) -> bool {
+    !matches!(
+        verdict(bytes, question as u32, 8),
+        Ok(Verdict::Holds { visits: 1 }) | Ok(Verdict::Fails { request: 0, .. })
+    )
 }
 
 /// What is left of a table after some mishap; it may still be accepted.
 pub fn damaged(random: &mut Random, mut bytes: Vec<u8>) -> Vec<u8> {
     let place = random.below(bytes.len() + 1);
-    match random.below(7) {
+    match random.below(8) {
         0 => bytes.truncate(place),
         1 => bytes.insert(place, any_byte(random)),
         2 => bytes.extend_from_within(..),
@@ -180,6 +255,10 @@ pub fn damaged(random: &mut Random, mut bytes: Vec<u8>) -> Vec<u8> {
             let from = random.below(other.len());
             bytes.truncate(place);
             bytes.extend_from_slice(&other[from..]);
+        }
+        6 => {
+            let count = random.pick(&[1, CONSTRAINTS, CONSTRAINTS + 1]);
+            bytes = [constraints(random, count, PREDICATES, &bytes), bytes].concat();
         }
         _ => {
             for _ in 0..random.within(&(1..=3)) {

@@ -1,6 +1,8 @@
 //! Where one choice for two equal numbers (document 02, L3) brings another answer than
 //! document 01's two choices, and that random tests meet many such cases.
 
+mod share;
+
 use std::collections::BTreeMap;
 
 use pierstride_oracle::call::Call;
@@ -10,6 +12,8 @@ use pierstride_oracle::random::Random;
 use pierstride_oracle::tables::{self, Mixture};
 use pierstride_oracle::{crafted, possible, possible_by, read, texts, verdict, verdict_by};
 use pierstride_oracle::{Choice, Refusal};
+
+use share::Share;
 
 /// The operators that, on some row and itself, have another set by L3 than by document 01:
 /// those of the two orders, implication and guard. The overrides never have.
@@ -26,26 +30,6 @@ fn sets_differ(table: &[u8], row: u32, known: u32, yes: u32) -> Result<bool, Ref
 fn walks_differ(table: &[u8], question: u32, budget: u32) -> Result<bool, Refusal> {
     let of_01 = verdict_by(Choice::Independent, table, question, budget)?;
     Ok(verdict(table, question, budget)? != of_01)
-}
-
-/// In how many of how many cases the answers differ.
-#[derive(Clone, Copy, Debug, Default)]
-struct Share {
-    differ: usize,
-    of: usize,
-}
-
-impl Share {
-    /// Counts a case, unless it is refused.
-    fn count(&mut self, case: Result<bool, Refusal>) {
-        self.differ += usize::from(case == Ok(true));
-        self.of += usize::from(case.is_ok());
-    }
-
-    fn require(self, percent: usize, what: &str) {
-        println!("{what}: {} of {} differ", self.differ, self.of);
-        assert!(100 * self.differ >= percent * self.of, "{what}: fewer than {percent} percent");
-    }
 }
 
 /// Every operator and comparison on every set, as that of a row and itself.
@@ -117,13 +101,15 @@ struct Shares {
 }
 
 impl Shares {
-    fn count(&mut self, table: &[u8]) {
-        let rows = read(table).expect("an accepted table").rows.len() as u32;
-        for (number, entry) in (0..).zip(texts::entries(table)) {
+    fn count(&mut self, bytes: &[u8]) {
+        let table = read(bytes).expect("an accepted table");
+        let rows = table.rows.len() as u32;
+        let entries = texts::entries(bytes).skip(table.constraints.len());
+        for (number, entry) in (0..).zip(entries) {
             let differs = if number < rows {
-                sets_differ(table, number, 0, 0)
+                sets_differ(bytes, number, 0, 0)
             } else {
-                walks_differ(table, number - rows, VISITS)
+                walks_differ(bytes, number - rows, VISITS)
             };
             let share = if number < rows { &mut self.sets } else { &mut self.walks };
             share.count(differs);

@@ -5,7 +5,7 @@ use pierstride_oracle::limits::Probe;
 use pierstride_oracle::random::Random;
 use pierstride_oracle::tables::{self, Mixture};
 use pierstride_oracle::{crafted, laws, limits, notebook, read};
-use pierstride_oracle::{Refusal, Verdict, QUESTIONS, ROWS};
+use pierstride_oracle::{Part, Refusal, Verdict, CONSTRAINTS, QUESTIONS, ROWS};
 
 #[test]
 fn answers_the_notebook() {
@@ -53,14 +53,14 @@ fn scan(probe: &Probe, table: &[u8]) -> Option<Refusal> {
     let start = probe.before().len();
     let end = start + 1 + probe.group.length;
     let at_kind_byte = |number| Some(Refusal { number, place: start });
-    if !probe.group.is_question && probe.questions > 0 {
-        return at_kind_byte(5);
-    }
-    if !probe.group.is_question && probe.rows == ROWS {
-        return at_kind_byte(6);
-    }
-    if probe.group.is_question && probe.questions == QUESTIONS {
-        return at_kind_byte(7);
+    let (constraints, rows, questions) = (probe.constraints, probe.rows, probe.questions);
+    match probe.group.part {
+        Part::Constraints if rows + questions > 0 => return at_kind_byte(5),
+        Part::Rows if questions > 0 => return at_kind_byte(5),
+        Part::Rows if rows == ROWS => return at_kind_byte(6),
+        Part::Questions if questions == QUESTIONS => return at_kind_byte(7),
+        Part::Constraints if constraints == CONSTRAINTS => return at_kind_byte(14),
+        _ => {}
     }
     if table.len() < end {
         return at_kind_byte(2);
@@ -84,6 +84,36 @@ fn walks_parities_in_full() {
     }
 }
 
+/// Every further predicate of a chain takes a visit that breaks its link and one that
+/// keeps it.
+#[test]
+fn walks_chains_to_their_end() {
+    for predicates in 1..=24 {
+        let visits = crafted::visits_of_chain(predicates);
+        let call = Call::Verdict { question: 0, budget: visits };
+        let fails = Answer::Verdict(Verdict::Fails { request: (1 << predicates) - 1, visits });
+        assert_eq!(answer(&crafted::chain(predicates), call), fails);
+        let holds = Answer::Verdict(Verdict::Holds { visits });
+        assert_eq!(answer(&crafted::shut_chain(predicates), call), holds);
+        let call = Call::Verdict { question: 0, budget: visits - 1 };
+        let unfinished = Answer::Verdict(Verdict::Unfinished { budget: visits - 1 });
+        assert_eq!(answer(&crafted::chain(predicates), call), unfinished);
+    }
+}
+
+/// As many constraints as there may be, of which none is ever broken or waits.
+#[test]
+fn walks_as_without_constraints_that_say_nothing() {
+    for predicates in 1..=10 {
+        let constraints = crafted::idle_constraints(predicates);
+        let table = [constraints, crafted::parity(predicates)].concat();
+        assert_eq!(read(&table).map(|table| table.constraints.len()), Ok(CONSTRAINTS));
+        let call = Call::Verdict { question: 0, budget: u32::MAX };
+        let visits = (2 << predicates) - 1;
+        assert_eq!(answer(&table, call), Answer::Verdict(Verdict::Holds { visits }));
+    }
+}
+
 #[test]
 fn accepts_random_tables_of_every_shape() {
     let mut random = Random::new(2);
@@ -91,18 +121,19 @@ fn accepts_random_tables_of_every_shape() {
         for _ in 0..100 {
             let bytes = tables::table(&mut random, shape);
             let table = read(&bytes).expect("a table of a shape");
+            assert!(shape.constraints.contains(&table.constraints.len()));
             assert!(shape.rows.contains(&table.rows.len()));
         }
     }
 }
 
-/// The longest table has 959 bytes: its first row can name no row.
+/// The longest table has 1055 bytes: its first row can name no row.
 #[test]
 fn reads_the_longest_table() {
     let accepted = |table: &Vec<u8>| read(table).is_ok();
     let limits = limits::tables();
     let longest = limits.iter().filter(|table| accepted(table)).map(Vec::len).max();
-    assert_eq!(longest, Some(959));
+    assert_eq!(longest, Some(1055));
 }
 
 #[test]

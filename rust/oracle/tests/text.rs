@@ -8,7 +8,7 @@ use pierstride_oracle::texts::{spelling, Mixture};
 use pierstride_oracle::{
     crafted, from_text, laws, limits, lines, read, spellings, tables, to_text,
 };
-use pierstride_oracle::{QUESTIONS, ROWS, TEXT_BYTES};
+use pierstride_oracle::{Part, CONSTRAINTS, QUESTIONS, ROWS, TEXT_BYTES};
 
 #[test]
 fn answers_the_spellings() {
@@ -63,22 +63,23 @@ fn comes_back_to_every_accepted_table() {
     accepted.for_each(|table| laws::check_round_trip(&mut answer, &table));
 }
 
-/// In the longest text every line is the longest that can stand in its place, so a
-/// text of 256 rows and 64 questions is as long as all of these together.
+/// In the longest text every line is the longest that can stand in its place, so a text of
+/// 32 constraints, 256 rows and 64 questions is as long as all of these together.
 #[test]
 fn writes_the_longest_text() {
-    let rows: usize = (0..ROWS).map(|before| longest_line(false, before)).sum();
-    let questions = QUESTIONS * longest_line(true, ROWS);
-    assert_eq!(rows + questions, TEXT_BYTES);
+    let constraints = CONSTRAINTS * longest_line(Part::Constraints, 0);
+    let rows: usize = (0..ROWS).map(|before| longest_line(Part::Rows, before)).sum();
+    let questions = QUESTIONS * longest_line(Part::Questions, ROWS);
+    assert_eq!(constraints + rows + questions, TEXT_BYTES);
     let table = crafted::longest_text();
     assert_eq!(to_text(&table, &mut [0; TEXT_BYTES]), Ok(TEXT_BYTES));
 }
 
-/// How long a row's or a question's line behind so many rows can be. Of the numbers
-/// that an entry may name the highest has the most digits.
-fn longest_line(is_question: bool, rows: usize) -> usize {
+/// How long a line of a part behind so many rows can be. Of the numbers that an entry may
+/// name the highest has the most digits.
+fn longest_line(part: Part, rows: usize) -> usize {
     let mut longest = 0;
-    for group in LISTED.iter().filter(|group| group.is_question == is_question) {
+    for group in LISTED.iter().filter(|group| group.part == part) {
         let limit = group.limit(rows, QUESTIONS);
         if group.length == 0 || limit > 0 {
             let body = vec![limit.saturating_sub(1) as u8; group.length];

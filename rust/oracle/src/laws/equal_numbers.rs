@@ -4,11 +4,12 @@
 //! Some of them compare with document 01's independent choices, which the oracle has
 //! beside L3's.
 
+use super::constraints::split;
 use super::{Desk, Tried};
 use crate::kinds::{Group, BOTH, COMPARISONS, IF_PREDICATE, ON_TWO_ROWS};
 use crate::random::Random;
 use crate::texts::entries;
-use crate::{possible_by, verdict_by, Choice, Decision, Verdict};
+use crate::{possible_by, verdict_by, Choice, Decision, Part, Verdict};
 
 /// Checks every law of equal numbers on an accepted table. It must be small, for there must
 /// be room for twice its rows, and for twice its questions and some more.
@@ -74,8 +75,9 @@ fn end(verdict: Verdict) -> (Option<u32>, u32) {
 
 /// The table in which every row and every question stands twice, that of number i under
 /// 2i and 2i + 1. A body names the first of the two, and of two equal numbers both: so no
-/// body has equal numbers.
+/// row's or question's body has equal numbers.
 fn doubled(bytes: &[u8]) -> Vec<u8> {
+    let (constraints, rest) = split(bytes);
     let twins = |entry: &[u8]| {
         let mut twin = entry.to_vec();
         if !IF_PREDICATE.contains(&entry[0]) {
@@ -86,7 +88,7 @@ fn doubled(bytes: &[u8]) -> Vec<u8> {
         }
         twin.repeat(2)
     };
-    entries(bytes).flat_map(twins).collect()
+    constraints.iter().copied().chain(entries(rest).flat_map(twins)).collect()
 }
 
 /// How many rows are compared with themselves.
@@ -108,8 +110,10 @@ impl WithThemselves {
         let operators: Vec<u8> = (0..rows).map(|_| random.pick(&ON_TWO_ROWS)).collect();
         let (mut bytes, mut rest) = (Vec::new(), Vec::new());
         for entry in entries(tried.bytes) {
-            let is_question = Group::of(entry[0]).map_or(false, |group| group.is_question);
-            let part = if is_question { &mut rest } else { &mut bytes };
+            let part = match Group::of(entry[0]).map(|group| group.part) {
+                Some(Part::Questions) => &mut rest,
+                _ => &mut bytes,
+            };
             part.extend(entry);
         }
         bytes.extend((0..).zip(&operators).flat_map(|(row, &kind)| [kind, row, row]));

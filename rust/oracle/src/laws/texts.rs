@@ -129,7 +129,7 @@ fn is_above_255(piece: &[u8]) -> bool {
     has_more_digits && digits.iter().all(u8::is_ascii_digit)
 }
 
-/// A refusal 3 to 7 speaks of the line of the first bad entry of the bytes that the
+/// A refusal 3 to 7 or 14 speaks of the line of the first bad entry of the bytes that the
 /// text spells, and reading those bytes refuses them with its number. Lines behind
 /// that one change nothing, unless one is not well spelled.
 fn check_bad_entry(desk: &mut Desk, text: &[u8], refused: Refusal) {
