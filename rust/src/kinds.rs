@@ -20,6 +20,27 @@ impl fmt::Display for Numbered {
     }
 }
 
+/// The part of a table that an entry stands in: first come all constraints, then all rows,
+/// then all questions.
+#[derive(Clone, Copy, Debug, PartialEq, Eq)]
+pub enum Part {
+    /// These have no numbers.
+    Constraints,
+    Rows,
+    Questions,
+}
+
+impl Part {
+    /// What an entry of this part is, in a word.
+    pub fn entry(self) -> &'static str {
+        match self {
+            Part::Constraints => "constraint",
+            Part::Rows => "row",
+            Part::Questions => "question",
+        }
+    }
+}
+
 /// A kind of entry.
 #[derive(Clone, Copy, Debug, PartialEq, Eq)]
 pub struct Kind {
@@ -27,19 +48,23 @@ pub struct Kind {
     pub byte: u8,
     /// The word with which the entry's line in a text begins.
     pub word: &'static str,
-    /// What an entry of this kind is, a row or a question.
-    pub is: Numbered,
+    /// Where an entry of this kind stands.
+    pub part: Part,
     /// What each number of the entry's body names, in order.
     pub names: &'static [Numbered],
 }
 
 impl Kind {
+    const fn constraint(byte: u8, word: &'static str, names: &'static [Numbered]) -> Kind {
+        Kind { byte, word, part: Part::Constraints, names }
+    }
+
     const fn row(byte: u8, word: &'static str, names: &'static [Numbered]) -> Kind {
-        Kind { byte, word, is: Numbered::Row, names }
+        Kind { byte, word, part: Part::Rows, names }
     }
 
     const fn question(byte: u8, word: &'static str, names: &'static [Numbered]) -> Kind {
-        Kind { byte, word, is: Numbered::Question, names }
+        Kind { byte, word, part: Part::Questions, names }
     }
 
     /// The kind that a byte announces, if it announces one.
@@ -81,4 +106,6 @@ pub static KINDS: &[Kind] = &[
     Kind::question(0x41, "knowledge-at-or-below", &[Row, Row]),
     Kind::question(0x42, "not", &[Question]),
     Kind::question(0x43, "both", &[Question, Question]),
+    Kind::constraint(0x50, "never-both", &[Predicate, Predicate]),
+    Kind::constraint(0x51, "only-if", &[Predicate, Predicate]),
 ];

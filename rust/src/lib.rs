@@ -1,7 +1,7 @@
 //! Rule tables over four decisions: grant, deny, conflict and unspecified.
 //!
-//! A table is a byte string: a run of rows, then a run of questions about them.
-//! Each function takes the whole table and reads it first; nothing is kept
+//! A table is a byte string: a run of constraints, which say what requests can occur,
+//! then a run of rows, then a run of questions about them. Each function takes the whole table and reads it first; nothing is kept
 //! between calls, and any thread may call. Every byte string and every number
 //! brings an answer or a [`Refusal`], so nothing need be checked beforehand.
 //! A table also has a text, one line an entry: [`to_text`] writes it, and
@@ -34,7 +34,7 @@
 mod kinds;
 pub mod raw;
 
-pub use kinds::{Kind, Numbered, KINDS};
+pub use kinds::{Kind, Numbered, Part, KINDS};
 
 use std::fmt;
 
@@ -49,8 +49,8 @@ macro_rules! refusals {
     )*) => {
         /// Why a call was not answered.
         ///
-        /// Refusals 1 to 7 are those of reading and speak of the first bad entry of
-        /// the table. Of these, 3 and 4 give the place of a number: the first in the
+        /// Refusals 1 to 7 and 14 are those of reading and speak of the first bad entry
+        /// of the table. Of these, 3 and 4 give the place of a number: the first in the
         /// entry's body that is not below its limit. The others give the place of
         /// the entry, which is that of its kind byte. Refusals 8 to 11 speak of what
         /// was asked, and their place is 0.
@@ -74,14 +74,14 @@ macro_rules! refusals {
         /// ```
         #[derive(Clone, Copy, Debug, PartialEq, Eq)]
         pub struct Refusal {
-            /// The number of the refusal, 1 to 11.
+            /// The number of the refusal: 1 to 11, or 14.
             pub number: u32,
             /// Its place among the table's bytes, from 0; 0 if it points at nothing.
             pub place: usize,
         }
 
         impl Refusal {
-            /// Why, in words: with 1 to 7, what is said of what stands at the place.
+            /// Why, in words: with 1 to 7 and 14, what is said of what stands at the place.
             pub fn reason(&self) -> &'static str {
                 match self.number {
                     $($($number => $reason,)?)*
@@ -108,8 +108,8 @@ macro_rules! refusals {
         ///
         /// Refusals 12 and 13 speak of the first line that is not well spelled, and 13
         /// is given only if there is no cause for 12 on that line. If every line is
-        /// well spelled, 3 to 7 speak of the first line that is a bad entry of the
-        /// table. Refusal 11 comes last: the output is shorter than the bytes to
+        /// well spelled, 3 to 7 and 14 speak of the first line that is a bad entry of
+        /// the table. Refusal 11 comes last: the output is shorter than the bytes to
         /// write. It speaks of no line.
         ///
         /// | Number | Given when, at the line |
@@ -127,7 +127,7 @@ macro_rules! refusals {
         /// ```
         #[derive(Clone, Copy, Debug, PartialEq, Eq)]
         pub struct TextRefusal {
-            /// The number of the refusal: 3 to 7, or 11 to 13.
+            /// The number of the refusal: 3 to 7, or 11 to 14.
             pub number: u32,
             /// The number of the line that it speaks of, from 1; 0 if of none.
             pub place: usize,
@@ -162,8 +162,8 @@ refusals! {
         | "the predicate is above 23";
     4: the number at place "may not be named there"
         | "it names a row or question that does not stand before it";
-    5: the entry at place "is a row after a question"
-        | "it is a row after a question";
+    5: the entry at place "is a row after a question, or a constraint after a row or question"
+        | "it is a row after a question, or a constraint after a row or question";
     6: the entry at place "is a 257th row"
         | "it is a 257th row";
     7: the entry at place "is a 65th question"
@@ -175,6 +175,8 @@ refusals! {
     12: | "the word is missing or unknown, or a number is above 255";
     13: | "it is misspelt (it needs a word and as many numbers as that takes, a single \
            space before each, no leading zero, and a line feed at the end)";
+    14: the entry at place "is a 33rd constraint"
+        | "it is a 33rd constraint";
 }
 
 impl std::error::Error for Refusal {}
@@ -184,11 +186,14 @@ impl std::error::Error for TextRefusal {}
 /// So many predicates there are: 0 to 23.
 pub const PREDICATES: u32 = 24;
 
+/// So many constraints a table may have, of both kinds together.
+pub const CONSTRAINTS: u32 = 32;
+
 /// So many bytes are always enough for a table.
-pub const TABLE_BYTES: usize = 960;
+pub const TABLE_BYTES: usize = 1056;
 
 /// So many bytes are always enough for the text of a table.
-pub const TEXT_BYTES: usize = 9107;
+pub const TEXT_BYTES: usize = 9651;
 
 /// What a table consists of.
 #[derive(Clone, Copy, Debug, PartialEq, Eq)]
@@ -197,7 +202,7 @@ pub struct Counts {
     pub rows: u32,
     /// The number of questions.
     pub questions: u32,
-    /// One more than the highest predicate that any row uses, or 0.
+    /// One more than the highest predicate that any constraint or row uses, or 0.
     pub predicates: u32,
 }
 
@@ -267,14 +272,14 @@ impl DecisionSet {
 /// The reply to a question.
 #[derive(Clone, Copy, Debug, PartialEq, Eq)]
 pub enum Verdict {
-    /// The question is true at every request.
+    /// The question is true at every request within the constraints.
     Holds {
         /// How many visits the walk made.
         visits: u32,
     },
-    /// The question is false at some request.
+    /// The question is false at some request within the constraints.
     Fails {
-        /// The first request at which it is false, as a yes mask. In the order
+        /// The first of these at which it is false, as a yes mask. In the order
         /// of requests predicate 0 weighs most, and no comes before yes.
         request: u32,
         /// How many visits the walk made.
@@ -299,7 +304,7 @@ fn accepted(number: u32, place: usize) -> Result<(), Refusal> {
 ///
 /// # Errors
 ///
-/// Refusals 1 to 7, for the first bad entry of the table.
+/// Refusals 1 to 7 and 14, for the first bad entry of the table.
 pub fn read(table: &[u8]) -> Result<Counts, Refusal> {
     // SAFETY: the pointer and the length are those of a slice.
     let reply = unsafe { raw::pier_read(table.as_ptr(), table.len()) };
@@ -308,11 +313,12 @@ pub fn read(table: &[u8]) -> Result<Counts, Refusal> {
 }
 
 /// Answers what row `row` decides at the request whose yes mask is `yes`, every
-/// predicate being known; predicate i is bit i.
+/// predicate being known; predicate i is bit i. A request outside the constraints is
+/// answered too: they change nothing here, nor in [`possible`].
 ///
 /// # Errors
 ///
-/// In this order: refusals 1 to 7, for the first bad entry of the table; 8, if
+/// In this order: refusals 1 to 7 and 14, for the first bad entry of the table; 8, if
 /// there is no such row; 10, if `yes` has a bit above 23.
 pub fn decide(table: &[u8], row: u32, yes: u32) -> Result<Decision, Refusal> {
     // SAFETY: the pointer and the length are those of a slice.
@@ -332,7 +338,7 @@ pub fn decide(table: &[u8], row: u32, yes: u32) -> Result<Decision, Refusal> {
 ///
 /// # Errors
 ///
-/// In this order: refusals 1 to 7, for the first bad entry of the table; 8, if
+/// In this order: refusals 1 to 7 and 14, for the first bad entry of the table; 8, if
 /// there is no such row; 10, if a mask has a bit above 23 or `yes` has a bit
 /// that `known` has not.
 pub fn possible(table: &[u8], row: u32, known: u32, yes: u32) -> Result<DecisionSet, Refusal> {
@@ -342,8 +348,10 @@ pub fn possible(table: &[u8], row: u32, known: u32, yes: u32) -> Result<Decision
     Ok(DecisionSet(reply.set))
 }
 
-/// Answers whether question `question` is true at every request and, if not,
-/// which request is the first at which it is false.
+/// Answers whether question `question` is true at every request within the table's
+/// constraints and, if not, which of these is the first at which it is false. A request
+/// is within them if it keeps each: of a `never-both` the two predicates are not both
+/// yes, and of an `only-if` the first is yes only if the second is.
 ///
 /// The walk that finds this out may make `budget` visits; if it needs more, the
 /// reply is [`Verdict::Unfinished`]. For n predicates 2^(n+1) - 1 visits are
@@ -351,7 +359,7 @@ pub fn possible(table: &[u8], row: u32, known: u32, yes: u32) -> Result<Decision
 ///
 /// # Errors
 ///
-/// In this order: refusals 1 to 7, for the first bad entry of the table; 8, if
+/// In this order: refusals 1 to 7 and 14, for the first bad entry of the table; 8, if
 /// there is no such question.
 pub fn verdict(table: &[u8], question: u32, budget: u32) -> Result<Verdict, Refusal> {
     // SAFETY: the pointer and the length are those of a slice.
@@ -370,13 +378,14 @@ pub fn verdict(table: &[u8], question: u32, budget: u32) -> Result<Verdict, Refu
 /// bytes that took.
 ///
 /// Each row number above `row` is lowered by one wherever it occurs, so every
-/// other row decides as before under its new number; question numbers stay. The
+/// other row decides as before under its new number; constraints and question
+/// numbers stay, and every question keeps its verdict. The
 /// bytes of `out` behind those written keep what they had, and on a refusal all
 /// of them do.
 ///
 /// # Errors
 ///
-/// In this order: refusals 1 to 7, for the first bad entry of the table; 8, if
+/// In this order: refusals 1 to 7 and 14, for the first bad entry of the table; 8, if
 /// there is no such row; 9, if a row or a question names it; 11, if `out` is
 /// shorter than the bytes to write.
 pub fn strike(table: &[u8], row: u32, out: &mut [u8]) -> Result<usize, Refusal> {
@@ -393,7 +402,7 @@ pub fn strike(table: &[u8], row: u32, out: &mut [u8]) -> Result<usize, Refusal> 
 ///
 /// # Errors
 ///
-/// In this order: refusals 1 to 7, for the first bad entry of the table; 8, if
+/// In this order: refusals 1 to 7 and 14, for the first bad entry of the table; 8, if
 /// there is no such row.
 ///
 /// # Panics
@@ -411,8 +420,8 @@ pub fn entry(table: &[u8], row: u32) -> Result<&[u8], Refusal> {
 /// took; [`TEXT_BYTES`] are always enough.
 ///
 /// The text has one line for each entry, in their order: the word for its kind, its
-/// numbers in decimal with a single space before each, and a line feed. So row r is
-/// on line r + 1. Every accepted table has exactly one text, and [`from_text`] reads
+/// numbers in decimal with a single space before each, and a line feed. So row r of a
+/// table with c constraints is on line c + r + 1. Every accepted table has exactly one text, and [`from_text`] reads
 /// that as the same bytes. The bytes of `out` behind those written keep what they
 /// had, and on a refusal all of them do.
 ///
@@ -426,7 +435,7 @@ pub fn entry(table: &[u8], row: u32) -> Result<&[u8], Refusal> {
 ///
 /// # Errors
 ///
-/// In this order: refusals 1 to 7, for the first bad entry of the table; 11, if
+/// In this order: refusals 1 to 7 and 14, for the first bad entry of the table; 11, if
 /// `out` is shorter than the bytes to write.
 pub fn to_text(table: &[u8], out: &mut [u8]) -> Result<usize, Refusal> {
     let (table, table_len) = (table.as_ptr(), table.len());
@@ -456,7 +465,7 @@ pub fn to_text(table: &[u8], out: &mut [u8]) -> Result<usize, Refusal> {
 /// # Errors
 ///
 /// In this order: refusals 12 and 13, for the first line that is not well spelled, 12
-/// before 13 on that line; 3 to 7, for the first line that is a bad entry of the
+/// before 13 on that line; 3 to 7 and 14, for the first line that is a bad entry of the
 /// table; 11, if `out` is shorter than the bytes to write.
 pub fn from_text(text: &[u8], out: &mut [u8]) -> Result<usize, TextRefusal> {
     let (text, text_len) = (text.as_ptr(), text.len());

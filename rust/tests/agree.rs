@@ -14,7 +14,7 @@ use pierstride_oracle::calls::{random_call, reading_a_text};
 use pierstride_oracle::random::Random;
 use pierstride_oracle::tables::{self, Mixture, Shape};
 use pierstride_oracle::{crafted, laws, limits, lines, texts};
-use pierstride_oracle::{Verdict, OF_READING, OF_READING_A_TEXT};
+use pierstride_oracle::{Verdict, OF_READING, OF_READING_A_TEXT, PREDICATES};
 
 /// How many random calls each test makes; the laws and walks come on top.
 const RANDOM_CALLS: usize = 300_000;
@@ -50,6 +50,20 @@ fn agrees_on_every_operator_and_set() {
         for question in 0..counts.questions {
             let budget = u32::MAX;
             comparison.compare(&table, Call::Verdict { question, budget });
+        }
+    }
+}
+
+/// Chains of constraints of every length, with every budget up to the one that is enough.
+#[test]
+fn agrees_on_every_chain() {
+    let mut comparison = Comparison::default();
+    for count in 1..=PREDICATES as u8 {
+        for table in [crafted::chain(count), crafted::shut_chain(count)] {
+            for budget in 0..=crafted::visits_of_chain(count) {
+                comparison.compare(&table, Call::Verdict { question: 0, budget });
+            }
+            comparison.check_round_trip(&table);
         }
     }
 }

@@ -3,28 +3,35 @@
 
 use std::collections::BTreeMap;
 
-use pierstride::{read, Kind, Numbered, KINDS};
+use pierstride::{read, verdict, Kind, Numbered, Part, Verdict, KINDS};
 
 const PAGE: &str = include_str!("../../docs/WORDS.md");
 const TABLE_A: &str = include_str!("../../examples/table-a.txt");
 
-/// Two rows, and two rows and a question: what stands before an entry whose kind is tried.
+/// Nothing, two rows, and two rows and a question: what stands before an entry whose kind is
+/// tried.
+const NOTHING: &[u8] = &[];
 const ROWS: &[u8] = &[0x00, 0x00];
 const ROWS_AND_QUESTION: &[u8] = &[0x00, 0x00, 0x40, 0x00, 0x00];
 
-/// What the library says of a kind: its word, what it is, what its numbers name.
-type Found = (String, Numbered, Vec<Numbered>);
+/// What the library says of a kind: its word, where it stands, what its numbers name.
+type Found = (String, Part, Vec<Numbered>);
 
-/// Tries a kind as a third row, then as a second question; none if it is neither.
+/// Tries a kind as a constraint, which is not counted, then as a third row, then as a second
+/// question; none if it is nothing of these.
 fn found(byte: u8) -> Option<Found> {
-    let sorts = [(ROWS, (3, 0), Numbered::Row), (ROWS_AND_QUESTION, (2, 2), Numbered::Question)];
-    sorts.into_iter().find_map(|(before, counts, is)| {
+    let parts = [
+        (NOTHING, (0, 0), Part::Constraints),
+        (ROWS, (3, 0), Part::Rows),
+        (ROWS_AND_QUESTION, (2, 2), Part::Questions),
+    ];
+    parts.into_iter().find_map(|(before, counts, part)| {
         let tables = (0..=2).map(|count| [before, &[byte][..], &vec![0; count]].concat());
         let table = tables.into_iter().find(|table| {
             read(table).map_or(false, |found| (found.rows, found.questions) == counts)
         })?;
         let names = (before.len() + 1..table.len()).map(|place| named(&table, place)).collect();
-        Some((word(&table), is, names))
+        Some((word(&table), part, names))
     })
 }
 
@@ -57,7 +64,7 @@ fn word(table: &[u8]) -> String {
 fn the_package_has_the_library_s_kinds() {
     for byte in 0..=u8::MAX {
         let kind = Kind::of_byte(byte);
-        let kind = kind.map(|kind| (kind.word.to_owned(), kind.is, kind.names.to_vec()));
+        let kind = kind.map(|kind| (kind.word.to_owned(), kind.part, kind.names.to_vec()));
         assert_eq!(kind, found(byte), "kind {byte:02X}");
     }
     assert!(KINDS.windows(2).all(|pair| pair[0].byte < pair[1].byte));
@@ -75,8 +82,17 @@ fn the_package_has_the_library_s_predicates() {
 }
 
 #[test]
+fn the_package_has_the_library_s_constraints() {
+    let most = [0x50, 0x00, 0x01].repeat(pierstride::CONSTRAINTS as usize);
+    assert!(read(&most).is_ok());
+    let more = [&most[..], &[0x51]].concat();
+    let refusal = read(&more).expect_err("a constraint too many");
+    assert_eq!((refusal.number, refusal.place), (14, most.len()));
+}
+
+#[test]
 fn a_decision_s_word_is_that_of_the_row_that_always_decides_so() {
-    for kind in KINDS.iter().filter(|kind| kind.is == Numbered::Row && kind.names.is_empty()) {
+    for kind in KINDS.iter().filter(|kind| kind.part == Part::Rows && kind.names.is_empty()) {
         let decision = pierstride::decide(&[kind.byte], 0, 0).expect("a constant row");
         assert_eq!(decision.to_string(), kind.word);
     }
@@ -115,4 +131,17 @@ fn the_page_s_worked_example_is_table_a() {
     let text: String =
         lines.map(|line| line.split('`').nth(1).unwrap_or("").to_owned() + "\n").collect();
     assert_eq!(text, TABLE_A);
+}
+
+#[test]
+fn the_page_s_example_of_constraints_is_as_it_says() {
+    let heading = "## A worked example: a sheet that is withdrawn";
+    let (_, example) = PAGE.split_once(heading).expect("an example of constraints");
+    let lines = example.lines().filter_map(|line| line.strip_prefix("    "));
+    let text: String = lines.take(12).map(|line| line.to_owned() + "\n").collect();
+    let mut table = [0; pierstride::TABLE_BYTES];
+    let length = pierstride::from_text(text.as_bytes(), &mut table).expect("a text");
+    let ask = |question| verdict(&table[..length], question, u32::MAX);
+    assert!(matches!(ask(1), Ok(Verdict::Holds { .. })));
+    assert!(matches!(ask(3), Ok(Verdict::Fails { request: 0b110, .. })));
 }
