@@ -1,7 +1,7 @@
 //! Every verb on tables in both forms, from a file and from standard input.
 
 use pierstride_oracle::call::Call;
-use pierstride_oracle::{crafted, notebook};
+use pierstride_oracle::{crafted, notebook, texts};
 
 use crate::expected::{text_of, Request};
 use crate::harness::{answer, answer_on, words, Outcome, Scratch, TABLE_A, TABLE_A_BYTES};
@@ -223,7 +223,7 @@ fn the_empty_table_is_a_table() {
         ("bytes", ""),
         ("bytes --json", "{\"bytes\":\"\"}\n"),
         ("show", ""),
-        ("show --json", "{\"rows\":[],\"questions\":[]}\n"),
+        ("show --json", "{\"constraints\":[],\"rows\":[],\"questions\":[]}\n"),
         ("ask", "the table has no questions\n"),
         ("ask --json", "{\"verdicts\":[]}\n"),
     ];
@@ -239,6 +239,71 @@ fn the_empty_table_is_a_table() {
             assert!(outcome.status == 2 && said && outcome.out.is_empty(), "{asked}: {outcome:?}");
         }
     }
+}
+
+/// One office grants what is current (predicate 1), another denies what is withdrawn (0); is
+/// there never a conflict? A sheet is withdrawn only if another has replaced it (2), and it is
+/// never withdrawn and reserved (3).
+const CONSTRAINED: &str = "\
+only-if 0 2
+never-both 0 3
+grant-if 1
+deny-if 0
+knowledge-join 0 1
+conflict
+knowledge-at-or-below 3 2
+not 0
+";
+
+/// What is asked about that table, and the status and the words of the answer.
+#[rustfmt::skip]
+const ON_CONSTRAINED: &[(&str, i32, &str)] = &[
+    ("check", 0, "4 rows, 2 questions, 4 predicates\n"),
+    ("text", 0, CONSTRAINED),
+    ("show", 0, "\
+constraint  only-if 0 2
+constraint  never-both 0 3
+row 0       grant-if 1
+row 1       deny-if 0
+row 2       knowledge-join 0 1
+row 3       conflict
+question 0  knowledge-at-or-below 3 2
+question 1  not 0
+"),
+    // Without the constraints, predicates 0 and 1 are yes, after 5 visits.
+    ("ask 1", 1, "fails at predicates 0, 1 and 2 yes, all others no, after 7 visits\n"),
+    ("ask 1 --budget 6", 1, "unfinished after 6 visits\n"),
+    // Deciding does not look at them.
+    ("decide 2 --yes 0", 0, "deny\n"),
+    ("decide 2 --yes 0,1,3", 0, "conflict\n"),
+    ("possible 2 --yes 0,3", 0, "deny or conflict\n"),
+    ("picture 1", 0, "\
+digraph \"row 1\" {
+    graph [ordering=out, fontname=\"Helvetica\"];
+    node [shape=box, style=filled, fillcolor=white, fontname=\"Helvetica\"];
+    1 [label=\"row 1\\ndeny-if 0\"];
+}
+"),
+];
+
+#[test]
+fn constraints_are_shown_and_kept() {
+    let bytes = texts::spelled_by(CONSTRAINED.as_bytes()).expect("a text");
+    let forms = [&bytes[..], CONSTRAINED.as_bytes()];
+    for &(asked, status, out) in ON_CONSTRAINED {
+        for outcome in every_way(asked, forms) {
+            assert_eq!(outcome, Outcome::answer(status, out), "{asked}");
+        }
+    }
+    let mut objects = Objects::default();
+    for outcome in every_way("show --json", forms) {
+        let object = Request::Show.answer(forms[0]).check_json(&outcome);
+        objects.add("show", &outcome, object);
+    }
+    objects.check();
+    let longer = CONSTRAINED.replace("knowledge-at", "deny\nknowledge-at");
+    let struck = answer_on(longer.as_bytes(), &["strike", "-", "4"]);
+    assert_eq!(struck, Outcome::answer(0, CONSTRAINED));
 }
 
 #[test]

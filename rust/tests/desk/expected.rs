@@ -207,8 +207,9 @@ fn written(table: &[u8], as_text: bool) -> Expected {
 fn show(table: &[u8]) -> Expected {
     let text = text_of(table);
     let lines: Vec<&str> = text.lines().collect();
-    let rows = read(table).expect("an accepted table").rows.len();
-    let (rows, questions) = lines.split_at(rows);
+    let read = read(table).expect("an accepted table");
+    let (constraints, rest) = lines.split_at(read.constraints.len());
+    let (rows, questions) = rest.split_at(read.rows.len());
     let numbered = |what: &str, lines: &[&str]| -> Vec<(String, String)> {
         let number =
             |(number, line): (usize, &&str)| (format!("{what} {number}"), line.to_string());
@@ -220,9 +221,15 @@ fn show(table: &[u8]) -> Expected {
         };
         lines.iter().enumerate().map(object).collect::<Vec<_>>().join(",")
     };
-    let listing = [numbered("row", rows), numbered("question", questions)].concat();
+    let unnumbered = constraints.iter().map(|line| ("constraint".to_string(), line.to_string()));
+    let numbered = [numbered("row", rows), numbered("question", questions)].concat();
+    let listing = unnumbered.chain(numbered).collect();
+    let constraints: Vec<String> =
+        constraints.iter().map(|line| format!(r#"{{"text":{}}}"#, json::quoted(line))).collect();
+    let constraints = constraints.join(",");
     let (rows, questions) = (objects("row", rows), objects("question", questions));
-    let object = format!(r#"{{"rows":[{rows}],"questions":[{questions}]}}"#);
+    let object =
+        format!(r#"{{"constraints":[{constraints}],"rows":[{rows}],"questions":[{questions}]}}"#);
     answered(0, Words::Listing(listing), object)
 }
 

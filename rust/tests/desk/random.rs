@@ -7,7 +7,7 @@ use std::collections::BTreeMap;
 use std::time::{SystemTime, UNIX_EPOCH};
 
 use pierstride_oracle::random::Random;
-use pierstride_oracle::{read, tables, texts, verdict, Verdict};
+use pierstride_oracle::{read, tables, texts, verdict, Verdict, TABLE_BYTES};
 
 use crate::expected::{is_text, table_of, text_of, Request, Words};
 use crate::harness::answer_on;
@@ -128,7 +128,7 @@ fn budget(random: &mut Random, table: &[u8], question: u32) -> Option<u32> {
 
 /// Mostly a row that no other names, if there is one; else the row given.
 fn unnamed(random: &mut Random, table: &[u8], row: u32) -> u32 {
-    let strikes = |&row: &u32| pierstride_oracle::strike(table, row, &mut [0; 960]).is_ok();
+    let strikes = |&row: &u32| pierstride_oracle::strike(table, row, &mut [0; TABLE_BYTES]).is_ok();
     match (0..256).find(strikes) {
         Some(unnamed) if !random.one_in(3) => unnamed,
         _ => row,

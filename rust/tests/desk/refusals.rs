@@ -36,10 +36,22 @@ const OF_TEXTS: &[(&str, u32, usize, &str)] = &[
      "`grant` is a row after a question; all rows stand before all questions"),
     ("deny\ntruth-at-or-below 0 0\ndeny-if 24\n", 5, 3,
      "`deny-if 24` is a row after a question; all rows stand before all questions"),
+    ("never-both 3 24\n", 3, 1,
+     "`never-both 3 24` names predicate 24; a constraint may name predicates 0 to 23"),
+    ("only-if 0 1\nonly-if 99 24\n", 3, 2,
+     "`only-if 99 24` names predicate 99; a constraint may name predicates 0 to 23"),
+    ("deny\nnever-both 0 1\n", 5, 2,
+     "`never-both 0 1` is a constraint after a row; \
+      all constraints stand before all rows and questions"),
+    ("deny\ntruth-at-or-below 0 0\nonly-if 24 0\n", 5, 3,
+     "`only-if 24 0` is a constraint after a question; \
+      all constraints stand before all rows and questions"),
     ("grant-if 0\ngrand\n", 12, 2, "`grand` is no word; perhaps `grant` was meant"),
     ("deny\nDeny\n", 12, 2, "`Deny` is no word; …"),
     ("deny\nforbid-if 3\n", 12, 2, "`forbid-if…is no word; …"),
     ("deny\n# harbour sheets\n", 12, 2, "`# harbour sheets` …; …"),
+    ("never both 0 1\n", 12, 1, "`never both 0 1` …is no word; perhaps `never-both` was meant"),
+    ("only 0 1\n", 12, 1, "`only 0 1` …is no word; …"),
     ("deny-if 256\n", 12, 1, "`deny-if 256` has the number 256; no number is above 255"),
     ("deny 300\n", 12, 1, "`deny 300` has the number 300; no number is above 255"),
     ("deny\ntruth-meet 0 4294967297\n", 12, 2,
@@ -54,6 +66,8 @@ const OF_TEXTS: &[(&str, u32, usize, &str)] = &[
     ("deny-if 3 4\n", 13, 1, "`deny-if 3 4` has 2 numbers; `deny-if` takes 1 number: predicate"),
     ("both 1 2 3\n", 13, 1,
      "`both 1 2 3` has 3 numbers; `both` takes 2 numbers: question, question"),
+    ("only-if 3\n", 13, 1,
+     "`only-if 3` has 1 number; `only-if` takes 2 numbers: predicate, predicate"),
     ("not\n", 13, 1, "`not` has 0 numbers; `not` takes 1 number: question"),
     ("deny 3\n", 13, 1, "`deny 3` has 1 number; `deny` takes …"),
     ("grant\nnegation 0", 13, 2,
@@ -70,7 +84,8 @@ const OF_TEXTS: &[(&str, u32, usize, &str)] = &[
 const OF_BYTES: &[(&str, u32, usize, &str)] = &[
     ("12", 1, 0, NO_KIND_12),
     ("00 FF", 1, 1,
-     "`FF` is no kind; the kinds are 00 to 03, 10, 11, 20 to 23, 30 to 35, 38 to 3B, 40 to 43"),
+     "`FF` is no kind; the kinds are 00 to 03, 10, 11, 20 to 23, 30 to 35, 38 to 3B, 40 to 43, \
+      50, 51"),
     ("33 00", 2, 0,
      "`33 00` (knowledge-join) is cut short; `knowledge-join` takes 2 numbers: row, row"),
     ("00 3B", 2, 1,
@@ -80,6 +95,10 @@ const OF_BYTES: &[(&str, u32, usize, &str)] = &[
     ("00 40 00 00 42", 2, 4, "`42` (not) is cut short; `not` takes 1 number: question"),
     ("00 40 00 00 43 07", 2, 4,
      "`43 07` (both) is cut short; `both` takes 2 numbers: question, question"),
+    ("50 07", 2, 0,
+     "`50 07` (never-both) is cut short; `never-both` takes 2 numbers: predicate, predicate"),
+    ("51 00 18", 3, 2,
+     "`51 00 18` (only-if 0 24) names predicate 24; a constraint may name predicates 0 to 23"),
     ("00 10 18", 3, 2,
      "`10 18` (deny-if 24) names predicate 24; a row may name predicates 0 to 23"),
     ("11 FF", 3, 1,
@@ -96,10 +115,19 @@ const OF_BYTES: &[(&str, u32, usize, &str)] = &[
      "`00` (unspecified) is a row after a question; all rows stand before all questions"),
     ("00 40 00 00 20 05", 5, 4,
      "`20 05` (negation 5) is a row after a question; all rows stand before all questions"),
+    ("51 00 01 00 50 00 01", 5, 4,
+     "`50 00 01` (never-both 0 1) is a constraint after a row; \
+      all constraints stand before all rows and questions"),
+    ("00 51 07", 5, 1,
+     "`51 07` (only-if) is a constraint after a row; \
+      all constraints stand before all rows and questions"),
+    ("00 40 00 00 51 18 18", 5, 4,
+     "`51 18 18` (only-if 24 24) is a constraint after a question; \
+      all constraints stand before all rows and questions"),
 ];
 
 const NO_KIND_12: &str =
-    "`12` is no kind; the kinds are 00 to 03, 10, 11, 20 to 23, 30 to 35, 38 to 3B, 40 to 43";
+    "`12` is no kind; the kinds are 00 to 03, 10, 11, 20 to 23, 30 to 35, 38 to 3B, 40 to 43, 50, 51";
 
 /// Checks the words of a refusal, in which what an ellipsis stands for may be anything.
 fn check_message(said: &str, pattern: &str) {
@@ -131,6 +159,7 @@ fn check_refusal(input: &[u8], head: &str, keys: &str, pattern: &str, objects: &
 fn a_text_is_refused_in_words() {
     let rows = "deny\n".repeat(256);
     let questions = "deny\n".to_string() + &"truth-at-or-below 0 0\n".repeat(64);
+    let constraints = "only-if 0 1\n".repeat(32);
     let too_many = [
         (
             rows + "deny-if 24\n",
@@ -143,6 +172,12 @@ fn a_text_is_refused_in_words() {
             7,
             66,
             "`not 99` is a 65th question; a table has at most 64 questions",
+        ),
+        (
+            constraints + "never-both 24 0\n",
+            14,
+            33,
+            "`never-both 24 0` is a 33rd constraint; a table has at most 32 constraints",
         ),
     ];
     let too_many =
@@ -160,6 +195,7 @@ fn a_text_is_refused_in_words() {
 fn bytes_are_refused_in_words() {
     let rows = "00 ".repeat(256);
     let questions = "00 ".to_string() + &"40 00 00 ".repeat(64);
+    let constraints = "50 00 01 ".repeat(32);
     let too_many = [
         (rows + "00", 6, 256, "`00` (unspecified) is a 257th row; a table has at most 256 rows"),
         (
@@ -167,6 +203,12 @@ fn bytes_are_refused_in_words() {
             7,
             193,
             "`42 FF` (not 255) is a 65th question; a table has at most 64 questions",
+        ),
+        (
+            constraints + "51 01 02",
+            14,
+            96,
+            "`51 01 02` (only-if 1 2) is a 33rd constraint; a table has at most 32 constraints",
         ),
     ];
     let too_many =

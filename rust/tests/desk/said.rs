@@ -1,8 +1,8 @@
 //! What a refusal must say, as far as docs/DESK.md settles it: to the letter where the page
 //! has words for the case, and else its number and place, the entry, and what was found.
 
-use pierstride_oracle::kinds::{word_of, Group, BOTH, IF_PREDICATE, NOT};
-use pierstride_oracle::{texts, Refusal};
+use pierstride_oracle::kinds::{word_of, Group, BOTH, IF_PREDICATE, NOT, ON_TWO_PREDICATES};
+use pierstride_oracle::{texts, Part, Refusal};
 
 use crate::expected::{is_text, names_row};
 use crate::{json, misspelt};
@@ -10,7 +10,7 @@ use crate::{json, misspelt};
 /// How a second line begins, which the refusal of bytes has that seem to be meant as a text.
 pub const MEANT_AS_TEXT: &str = "if this is meant as a text: ";
 
-const KINDS: &str = "00 to 03, 10, 11, 20 to 23, 30 to 35, 38 to 3B, 40 to 43";
+pub const KINDS: &str = "00 to 03, 10, 11, 20 to 23, 30 to 35, 38 to 3B, 40 to 43, 50, 51";
 
 /// More than a refusal needs, and little on a terminal.
 pub const LONGEST: usize = 1000;
@@ -181,8 +181,9 @@ impl<'a> Entry<'a> {
     /// The entry of this number, which is shown so.
     fn new(bytes: &'a [u8], number: usize, shown: String) -> Entry<'a> {
         let entries = entries(bytes);
-        let rows = entries[..number].iter().filter(|entry| entry[0] < 0x40).count();
-        Entry { bytes: entries[number], rows, questions: number - rows, shown }
+        let before = |part| entries[..number].iter().filter(|entry| part_of(entry) == part).count();
+        let (rows, questions) = (before(Part::Rows), before(Part::Questions));
+        Entry { bytes: entries[number], rows, questions, shown }
     }
 
     fn message(&self, refusal: u32) -> Message {
@@ -190,21 +191,32 @@ impl<'a> Entry<'a> {
         match refusal {
             1 => Whole(format!("{shown} is no kind; the kinds are {KINDS}")),
             2 => Whole(format!("{shown} is cut short; {}", takes(self.bytes[0]))),
-            3 => Whole(format!(
-                "{shown} names predicate {}; a row may name predicates 0 to 23",
-                self.bytes[1]
-            )),
-            4 => self.names(),
-            5 => Whole(format!(
-                "{shown} is a row after a question; all rows stand before all questions"
-            )),
+            3 | 4 => self.names(),
+            5 => Whole(format!("{shown} is {}", self.out_of_order())),
             6 => Whole(format!("{shown} is a 257th row; a table has at most 256 rows")),
             7 => Whole(format!("{shown} is a 65th question; a table has at most 64 questions")),
+            14 => {
+                Whole(format!("{shown} is a 33rd constraint; a table has at most 32 constraints"))
+            }
             _ => panic!("reading gives no refusal {refusal}"),
         }
     }
 
-    /// Refusal 4: the page has words for a row that may name some row, and none for others.
+    /// Refusal 5, behind the entry.
+    fn out_of_order(&self) -> &'static str {
+        match (part_of(self.bytes), self.questions) {
+            (Part::Constraints, 0) => {
+                "a constraint after a row; all constraints stand before all rows and questions"
+            }
+            (Part::Constraints, _) => {
+                "a constraint after a question; all constraints stand before all rows and questions"
+            }
+            _ => "a row after a question; all rows stand before all questions",
+        }
+    }
+
+    /// Refusals 3 and 4: the page has words for a constraint, and for a row that may name
+    /// something, and none for others.
     fn names(&self) -> Message {
         let (kind, what) = (self.bytes[0], named_by(self.bytes[0]));
         let group = Group::of(kind).expect("a listed kind");
@@ -214,17 +226,27 @@ impl<'a> Entry<'a> {
         let found = format!("{} names {what} {number}; ", self.shown);
         match limit {
             0 => Parts(vec![found]),
-            _ if group.is_question => Parts(vec![found, numbered(what, limit)]),
-            _ => Whole(format!("{found}a row may name {}", numbered(what, limit))),
+            _ => match group.part {
+                Part::Questions => Parts(vec![found, numbered(what, limit)]),
+                Part::Rows => Whole(format!("{found}a row may name {}", numbered(what, limit))),
+                Part::Constraints => {
+                    Whole(format!("{found}a constraint may name {}", numbered(what, limit)))
+                }
+            },
         }
     }
+}
+
+/// The part of a table that an entry of a listed kind stands in.
+fn part_of(entry: &[u8]) -> Part {
+    Group::of(entry[0]).expect("a listed kind").part
 }
 
 /// What the numbers of a kind name.
 fn named_by(kind: u8) -> &'static str {
     match kind {
         NOT | BOTH => "question",
-        _ if IF_PREDICATE.contains(&kind) => "predicate",
+        _ if IF_PREDICATE.contains(&kind) || ON_TWO_PREDICATES.contains(&kind) => "predicate",
         _ => "row",
     }
 }
@@ -266,16 +288,19 @@ pub fn not_there(what: &str, number: &str, count: usize) -> Said {
 
 /// Refusal 9: a row of a table's bytes is named by others.
 pub fn named(table: &[u8], row: u32) -> Said {
-    let mut numbers = [0, 0];
+    let (mut rows, mut questions) = (0, 0);
     let mut names = Vec::new();
     for entry in entries(table) {
-        let is_question = usize::from(entry[0] >= 0x40);
+        let (what, number) = match part_of(entry) {
+            Part::Constraints => continue,
+            Part::Rows => ("row", &mut rows),
+            Part::Questions => ("question", &mut questions),
+        };
         if names_row(entry, row) {
-            let what = ["row", "question"][is_question];
             let line = String::from_utf8_lossy(&texts::spelling(entry)).trim_end().to_owned();
-            names.push(format!("{what} {} (`{line}`)", numbers[is_question]));
+            names.push(format!("{what} {number} (`{line}`)"));
         }
-        numbers[is_question] += 1;
+        *number += 1;
     }
     let found = format!("row {row} is named by ");
     let message = match &names[..] {

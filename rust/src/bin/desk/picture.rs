@@ -3,7 +3,7 @@
 use std::collections::BTreeSet;
 use std::fmt::Write;
 
-use pierstride::{Decision, Numbered};
+use pierstride::{Decision, Numbered, Part};
 
 use crate::table::Entry;
 
@@ -42,7 +42,7 @@ pub fn draw(entries: &[Entry], row: u32, decided: Option<&Decided>) -> String {
 /// The rows that a row reaches, itself included, by falling numbers.
 fn reached(entries: &[Entry], row: u32) -> Vec<&Entry> {
     let mut numbers = BTreeSet::from([row]);
-    let rows = entries.iter().filter(|entry| entry.kind.is == Numbered::Row).rev();
+    let rows = entries.iter().filter(|entry| entry.kind.part == Part::Rows).rev();
     // A row names only rows with a lower number, so each is met after all that name it.
     rows.filter(|entry| {
         let met = numbers.contains(&entry.number);

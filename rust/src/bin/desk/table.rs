@@ -5,7 +5,7 @@ use std::fs::File;
 use std::io::{self, Read};
 use std::os::unix::io::AsFd;
 
-use pierstride::{Counts, Kind, Numbered, TextRefusal};
+use pierstride::{Counts, Kind, Numbered, Part, TextRefusal};
 
 use crate::explain;
 use crate::line;
@@ -36,10 +36,10 @@ pub struct Table {
     pub counts: Counts,
 }
 
-/// A row or a question.
+/// A constraint, a row or a question.
 pub struct Entry {
     pub kind: &'static Kind,
-    /// Its number, among the rows or among the questions.
+    /// Its number, among the rows or among the questions. Constraints are not told by theirs.
     pub number: u32,
     /// The numbers that it names.
     pub numbers: Vec<u32>,
@@ -113,12 +113,12 @@ pub fn text_of(bytes: &[u8]) -> String {
 }
 
 impl Table {
-    /// The rows and the questions, in the table's order.
+    /// The constraints, the rows and the questions, in the table's order.
     pub fn entries(&self) -> Vec<Entry> {
         let (text, mut entries) = (text_of(&self.bytes), Vec::new());
         for line in line::lines(text.as_bytes()) {
             let kind = line.kind().expect("the library writes the words of its kinds");
-            let before = |entry: &&Entry| entry.kind.is == kind.is;
+            let before = |entry: &&Entry| entry.kind.part == kind.part;
             let number = entries.iter().filter(before).count() as u32;
             let (numbers, line) = (line.numbers(), String::from_utf8_lossy(line.whole).into());
             entries.push(Entry { kind, number, numbers, line });
@@ -142,9 +142,12 @@ pub fn count(counts: &Counts, of: Numbered) -> u32 {
 }
 
 impl Entry {
-    /// "row 4"
+    /// "row 4", "constraint"
     pub fn label(&self) -> String {
-        format!("{} {}", self.kind.is, self.number)
+        match self.kind.part {
+            Part::Constraints => self.kind.part.entry().to_owned(),
+            Part::Rows | Part::Questions => format!("{} {}", self.kind.part.entry(), self.number),
+        }
     }
 
     /// The things that it names of one sort: rows, say.

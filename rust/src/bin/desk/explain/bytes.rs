@@ -36,11 +36,13 @@ fn of_entry(table: &[u8], start: usize, kind: &'static Kind, refusal: Refusal) -
     let body = table[start + 1..].iter().take(kind.names.len());
     let numbers: Vec<u32> = body.map(|&byte| byte.into()).collect();
     let own = in_hex(&table[start..=start + numbers.len()]);
+    // An entry that is cut short is no line of a text.
+    let is_whole = numbers.len() == kind.names.len();
+    let line = numbers.iter().filter(|_| is_whole).map(|number| format!(" {number}"));
+    let shown = format!("{own} ({}{})", kind.word, line.collect::<String>());
     if refusal.number == 2 {
-        return format!("{own} ({}) {}; {}", kind.word, refusal.reason(), takes(kind));
+        return format!("{shown} {}; {}", refusal.reason(), takes(kind));
     }
-    let line: String = numbers.iter().map(|number| format!(" {number}")).collect();
-    let shown = format!("{own} ({}{line})", kind.word);
     let before = pierstride::read(&table[..start]).expect("what is before the first bad entry");
     Bad { shown, kind, numbers, before }.why(refusal.number)
 }

@@ -11,7 +11,7 @@ pub use bytes::of_bytes;
 pub use call::of_call;
 pub use text::of_text;
 
-use pierstride::{Counts, Kind, Numbered, Refusal};
+use pierstride::{Counts, Kind, Numbered, Part, Refusal, CONSTRAINTS};
 
 use crate::table::count;
 use crate::words::counted;
@@ -27,18 +27,36 @@ struct Bad {
 }
 
 impl Bad {
-    /// Why: refusals 3 to 7.
+    /// Why: refusals 3 to 7 and 14.
     fn why(&self, number: u32) -> String {
-        let (shown, is) = (&self.shown, self.kind.is);
+        let shown = &self.shown;
         let reason = Refusal { number, place: 0 }.reason();
         match number {
             3 | 4 => self.misnamed().unwrap_or_else(|| format!("{shown}: {reason}")),
-            5 => format!("{shown} {reason}; all rows stand before all questions"),
-            _ => {
-                let most = counted(count(&self.before, is), is);
-                format!("{shown} {reason}; a table has at most {most}")
-            }
+            5 => format!("{shown} {}", self.out_of_order()),
+            _ => format!("{shown} {reason}; a table has at most {}", self.most()),
         }
+    }
+
+    /// What it stands behind, and before what it should.
+    fn out_of_order(&self) -> String {
+        let is = self.kind.part.entry();
+        let after = if self.before.questions > 0 { "question" } else { "row" };
+        let before = match self.kind.part {
+            Part::Constraints => "rows and questions",
+            Part::Rows | Part::Questions => "questions",
+        };
+        format!("is a {is} after a {after}; all {is}s stand before all {before}")
+    }
+
+    /// How many of its part a table may have, where that many stand before it.
+    fn most(&self) -> String {
+        let most = match self.kind.part {
+            Part::Constraints => CONSTRAINTS,
+            Part::Rows => self.before.rows,
+            Part::Questions => self.before.questions,
+        };
+        counted(most, self.kind.part.entry())
     }
 
     /// The first number that may not be named there, and which may.
@@ -48,7 +66,9 @@ impl Bad {
             named.find(|(names, number)| **number >= count(&self.before, **names))?;
         let allowed = match count(&self.before, *names) {
             0 => format!("no {names} stands before it"),
-            most => format!("a {} may name {}", self.kind.is, from_zero(*names, most)),
+            most => {
+                format!("a {} may name {}", self.kind.part.entry(), from_zero(*names, most))
+            }
         };
         Some(format!("{} names {names} {number}; {allowed}", self.shown))
     }

@@ -19,7 +19,7 @@ pub fn of_text(text: &[u8], refusal: TextRefusal) -> Refused {
         (12, None) => Some(unknown_word(line)),
         (12, Some(_)) => too_large(line),
         (13, Some(kind)) => Some(misspelt(line, kind)),
-        (3..=7, Some(kind)) => Some(of_line(text, place, line, kind).why(number)),
+        (3..=7 | 14, Some(kind)) => Some(of_line(text, place, line, kind).why(number)),
         _ => None,
     });
     let message = message.unwrap_or_else(|| refusal.reason().to_owned());

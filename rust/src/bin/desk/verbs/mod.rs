@@ -100,7 +100,7 @@ pub static VERBS: &[Verb] = &[
         options: &[],
         brief: "how many rows, questions and predicates, or the refusal",
         about: "How many rows and questions a table has, and how many predicates: one more\n\
-                than the highest that any row uses. Or the refusal.",
+                than the highest that any constraint or row uses. Or the refusal.",
         example: ("desk check examples/table-a.txt", "6 rows, 3 questions, 2 predicates"),
         run: tables::check,
     },
@@ -126,8 +126,9 @@ pub static VERBS: &[Verb] = &[
         name: "show",
         operand: None,
         options: &[],
-        brief: "each row and each question with its number",
-        about: "The table for people: each row and each question with its number and its text.",
+        brief: "each constraint, and each row and question with its number",
+        about: "The table for people: each constraint, then each row and each question with its\n\
+                number, and their text.",
         example: (
             "printf 'grant\\nnegation 0\\n' | desk show -",
             "row 0  grant\nrow 1  negation 0",
@@ -158,9 +159,10 @@ pub static VERBS: &[Verb] = &[
         operand: Some(Operand { required: false, ..QUESTION }),
         options: &[BUDGET],
         brief: "whether a question holds, or every question",
-        about: "Whether question QUESTION is true at every request and, if not, the first\n\
-                request that breaks it; without QUESTION, of every question of the table.\n\
-                The exit status is 1 if one fails or is unfinished.",
+        about: "Whether question QUESTION is true at every request within the table's\n\
+                constraints and, if not, the first of these that breaks it; without\n\
+                QUESTION, of every question of the table. The exit status is 1 if one\n\
+                fails or is unfinished.",
         example: (
             "desk ask examples/table-a.txt 2",
             "fails at predicates 0 and 1 yes, all others no, after 5 visits",
@@ -173,7 +175,7 @@ pub static VERBS: &[Verb] = &[
         options: &[OUTPUT],
         brief: "the table without a row, in the form of the old",
         about: "The table without row ROW, in the form of the old. Every remaining row\n\
-                decides as before under its new number.",
+                decides as before under its new number, and constraints stay as they are.",
         example: ("printf 'deny\\ngrant\\nnegation 1\\n' | desk strike - 0", "grant\nnegation 0"),
         run: tables::strike,
     },

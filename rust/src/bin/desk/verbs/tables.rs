@@ -1,10 +1,10 @@
 //! The verbs about a whole table.
 
-use pierstride::Numbered;
+use pierstride::{Numbered, Part};
 
 use crate::asked::Asked;
-use crate::json::{array, object};
-use crate::table::{text_of, Form};
+use crate::json::{array, object, Json};
+use crate::table::{text_of, Entry, Form};
 use crate::trouble::Trouble;
 use crate::words::counted;
 use crate::Status;
@@ -61,14 +61,24 @@ pub fn show(asked: &Asked) -> Result<Status, Trouble> {
     for entry in &entries {
         asked.output().words(format!("{:width$}  {}", entry.label(), entry.line))?;
     }
-    let listed = |what: Numbered, name| {
-        let entries = entries.iter().filter(|entry| entry.kind.is == what);
-        array(entries.map(|entry| {
-            object([(name, entry.number.into()), ("text", entry.line.as_str().into())])
-        }))
+    let listed = |part: Part| {
+        let entries = entries.iter().filter(|entry| entry.kind.part == part);
+        array(entries.map(in_json))
     };
-    let rows = ("rows", listed(Numbered::Row, "row"));
-    let questions = ("questions", listed(Numbered::Question, "question"));
-    asked.output().object(object([rows, questions]))?;
+    let fields = [
+        ("constraints", listed(Part::Constraints)),
+        ("rows", listed(Part::Rows)),
+        ("questions", listed(Part::Questions)),
+    ];
+    asked.output().object(object(fields))?;
     Ok(Status::Answered)
+}
+
+/// An entry with its number, if it goes by one.
+fn in_json(entry: &Entry) -> Json {
+    let text = ("text", entry.line.as_str().into());
+    match entry.kind.part {
+        Part::Constraints => object([text]),
+        part => object([(part.entry(), entry.number.into()), text]),
+    }
 }
