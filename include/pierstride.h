@@ -1,10 +1,11 @@
 /*
  * Pierstride: rule tables over four decisions.
  *
- * A table is a byte string: a run of rows, then a run of questions about them.
- * Each call takes the whole table and reads it first. Nothing is kept between
- * calls. A table also has a text, one line an entry, for people to read and to
- * write: pier_to_text and pier_from_text turn one into the other.
+ * A table is a byte string: a run of constraints, which say what requests can
+ * occur, then a run of rows, then a run of questions about them. Each call takes
+ * the whole table and reads it first. Nothing is kept between calls. A table also
+ * has a text, one line an entry, for people to read and to write: pier_to_text
+ * and pier_from_text turn one into the other.
  *
  * What the caller need check. Of bytes and numbers, nothing: every byte string
  * and every number brings an answer or a numbered refusal. Of memory, what no
@@ -31,7 +32,7 @@ extern "C" {
 
 /*
  * The refusals; those of a call on a table stand in the order in which they are
- * looked for. The first seven are those of reading, which every such call may
+ * looked for. The first eight are those of reading, which every such call may
  * give: they are looked for entry by entry from the front, so the first bad entry
  * speaks. The others speak of what was asked. A refusal changes no byte of any
  * slice.
@@ -55,20 +56,25 @@ extern "C" {
  */
 enum {
     PIER_NO_REFUSAL = 0,
-    PIER_KIND_NOT_LISTED = 1,    /* entry: its kind is not listed */
-    PIER_ROW_AFTER_QUESTION = 5, /* entry: it is a row after a question */
-    PIER_TOO_MANY_ROWS = 6,      /* entry: it is a 257th row */
-    PIER_TOO_MANY_QUESTIONS = 7, /* entry: it is a 65th question */
-    PIER_BODY_CUT_SHORT = 2,     /* entry: its body is cut short */
-    PIER_PREDICATE_ABOVE_23 = 3, /* number: it is a predicate above 23 */
-    PIER_MAY_NOT_BE_NAMED = 4,   /* number: it may not be named there */
-    PIER_NOT_THERE = 8,          /* none: the row or question asked for is not there */
-    PIER_ROW_IS_NAMED = 9,       /* none: a row or question names the row to strike */
-    PIER_BAD_MASK = 10,          /* none: a mask bit is above 23, or a yes is not known */
-    PIER_OUTPUT_TOO_SHORT = 11,  /* none: the output is shorter than the bytes to write */
-    PIER_UNKNOWN_WORD = 12,      /* line: its word is unknown, or it has a number above 255 */
-    PIER_MISSPELT_LINE = 13      /* line: any other spelling that pier_to_text does not write */
+    PIER_KIND_NOT_LISTED = 1,       /* entry: its kind is not listed */
+    PIER_OUT_OF_ORDER = 5,          /* entry: it is a row after a question, or a constraint
+                                       after a row or question */
+    PIER_TOO_MANY_ROWS = 6,         /* entry: it is a 257th row */
+    PIER_TOO_MANY_QUESTIONS = 7,    /* entry: it is a 65th question */
+    PIER_TOO_MANY_CONSTRAINTS = 14, /* entry: it is a 33rd constraint */
+    PIER_BODY_CUT_SHORT = 2,        /* entry: its body is cut short */
+    PIER_PREDICATE_ABOVE_23 = 3,    /* number: it is a predicate above 23 */
+    PIER_MAY_NOT_BE_NAMED = 4,      /* number: it may not be named there */
+    PIER_NOT_THERE = 8,             /* none: the row or question asked for is not there */
+    PIER_ROW_IS_NAMED = 9,          /* none: a row or question names the row to strike */
+    PIER_BAD_MASK = 10,             /* none: a mask bit is above 23, or a yes is not known */
+    PIER_OUTPUT_TOO_SHORT = 11,     /* none: the output is shorter than the bytes to write */
+    PIER_UNKNOWN_WORD = 12,         /* line: its word is unknown, or a number is above 255 */
+    PIER_MISSPELT_LINE = 13         /* line: any other spelling that pier_to_text does not write */
 };
+
+/* What PIER_OUT_OF_ORDER was called as long as it spoke of rows alone. */
+enum { PIER_ROW_AFTER_QUESTION = PIER_OUT_OF_ORDER };
 
 /* The decisions. */
 enum {
@@ -80,8 +86,8 @@ enum {
 
 /* The replies to a question. */
 enum {
-    PIER_HOLDS = 1,     /* it is true at every request */
-    PIER_FAILS = 2,     /* it is false at some request */
+    PIER_HOLDS = 1,     /* it is true at every request within the constraints */
+    PIER_FAILS = 2,     /* it is false at some request within them */
     PIER_UNFINISHED = 3 /* the walk makes more visits than the budget */
 };
 
@@ -90,13 +96,14 @@ enum {
 enum { PIER_STACK_BYTES = 32 * 1024 };
 
 /* No table has more bytes. */
-enum { PIER_TABLE_BYTES = 960 };
+enum { PIER_TABLE_BYTES = 1056 };
 
 /*
- * No table has a longer text: so many bytes has that of 256 rows and 64 questions,
- * each with the longest word and the highest numbers that can stand there.
+ * No table has a longer text: so many bytes has that of 32 constraints, 256 rows and
+ * 64 questions, each with the longest word and the highest numbers that can stand
+ * there.
  */
-enum { PIER_TEXT_BYTES = 9107 };
+enum { PIER_TEXT_BYTES = 9651 };
 
 /*
  * Every answer begins with the refusal and its place, PIER_NO_REFUSAL and 0 if
@@ -110,7 +117,8 @@ typedef struct {
     size_t place;
     uint32_t rows;       /* the number of rows */
     uint32_t questions;  /* the number of questions */
-    uint32_t predicates; /* one more than the highest predicate used, or 0 */
+    uint32_t predicates; /* one more than the highest predicate that a constraint or
+                            row uses, or 0 */
 } pier_counts;
 
 /* What pier_decide answers. */
@@ -133,7 +141,8 @@ typedef struct {
     uint32_t refusal;
     size_t place;
     uint32_t reply;
-    uint32_t request; /* PIER_FAILS: the first request that breaks it, as a yes mask */
+    uint32_t request; /* PIER_FAILS: the first request within the constraints that breaks
+                         it, as a yes mask */
     uint32_t visits;  /* the count of visits; PIER_UNFINISHED: the budget */
 } pier_verdict_reply;
 
@@ -161,7 +170,8 @@ pier_counts pier_read(const uint8_t *table, size_t table_len);
 
 /*
  * Answers what a row decides at the request whose yes mask is given, every
- * predicate being known.
+ * predicate being known. A request outside the constraints is answered too: they
+ * change nothing here, nor in pier_possible.
  *
  * Refusals: those of reading; PIER_NOT_THERE; PIER_BAD_MASK.
  */
@@ -182,12 +192,14 @@ pier_set pier_possible(const uint8_t *table, size_t table_len, uint32_t row, uin
                        uint32_t yes);
 
 /*
- * Answers whether a question is true at every request and, if not, which request
- * is the first at which it is false; in the order of requests predicate 0 weighs
- * most, and no comes before yes. The walk that finds this out may make `budget`
- * visits; the reply is PIER_UNFINISHED exactly if it needs more. For n predicates
- * 2^(n+1) - 1 visits are always enough, and every budget that is enough brings
- * the same reply.
+ * Answers whether a question is true at every request within the constraints and,
+ * if not, which of these is the first at which it is false; in the order of
+ * requests predicate 0 weighs most, and no comes before yes. A request is within
+ * the constraints if it keeps each: the two predicates of a 50 are not both yes,
+ * and the first predicate of a 51 is yes only if the second is. The walk that
+ * finds this out may make `budget` visits; the reply is PIER_UNFINISHED exactly
+ * if it needs more. For n predicates 2^(n+1) - 1 visits are always enough, and
+ * every budget that is enough brings the same reply.
  *
  * Refusals: those of reading; PIER_NOT_THERE.
  */
@@ -196,9 +208,10 @@ pier_verdict_reply pier_verdict(const uint8_t *table, size_t table_len, uint32_t
 
 /*
  * Writes the table without a row to the front of `out`, each row number above
- * that row lowered by one wherever it occurs, question numbers unchanged. Every
- * other row decides as before under its new number. The bytes of `out` behind
- * those written keep what they had. `table_len` bytes are always enough.
+ * that row lowered by one wherever it occurs, constraints and question numbers
+ * unchanged. Every other row decides as before under its new number, and every
+ * question keeps its reply, request and count. The bytes of `out` behind those
+ * written keep what they had. `table_len` bytes are always enough.
  *
  * Refusals: those of reading; PIER_NOT_THERE; PIER_ROW_IS_NAMED;
  * PIER_OUTPUT_TOO_SHORT.
@@ -215,12 +228,13 @@ pier_written pier_strike(const uint8_t *table, size_t table_len, uint32_t row, u
 pier_part pier_entry(const uint8_t *table, size_t table_len, uint32_t row);
 
 /*
- * Writes the text of a table to the front of `out`. It has one line for each entry,
- * in their order: the word for its kind, its numbers in decimal with a single space
- * before each, and a line feed. So row r is on line r + 1. docs/WORDS.md lists the
- * words. Every accepted table has exactly one text, and pier_from_text reads that as
- * the same bytes. No byte of 0 ends it. The bytes of `out` behind those written keep
- * what they had. PIER_TEXT_BYTES bytes are always enough.
+ * Writes the text of a table to the front of `out`. It has one line for each
+ * entry, in their order: the word for its kind, its numbers in decimal with a
+ * single space before each, and a line feed. So row r of a table with c
+ * constraints is on line c + r + 1. docs/WORDS.md lists the words. Every accepted
+ * table has exactly one text, and pier_from_text reads that as the same bytes. No
+ * byte of 0 ends it. The bytes of `out` behind those written keep what they had.
+ * PIER_TEXT_BYTES bytes are always enough.
  *
  * Refusals: those of reading; PIER_OUTPUT_TOO_SHORT.
  */

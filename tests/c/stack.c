@@ -15,7 +15,10 @@
 
 #include "pierstride.h"
 
-enum { PAINT = 0xA5, MOST_BYTES = 1024, LAST_ROW = 255, LAST_QUESTION = 63 };
+enum { PAINT = 0xA5, CONSTRAINTS = 32, LAST_ROW = 255, LAST_QUESTION = 63 };
+
+/* Where rows begin behind all constraints, the length of the longest table, and a little more. */
+enum { ROWS = 3 * CONSTRAINTS, LONGEST = PIER_TABLE_BYTES - 1, MOST_BYTES = LONGEST + 16 };
 
 /* Enough visits to come to the walk's depth, and many more. */
 enum { VISITS = 1000, MANY_VISITS = 100000 };
@@ -135,18 +138,31 @@ static void add(table *table, unsigned kind, unsigned first, unsigned second)
     table->bytes[table->length++] = (uint8_t)second;
 }
 
+/* As many constraints as there may be, all of this kind and these predicates. */
+static table constrained(unsigned kind, unsigned first, unsigned second)
+{
+    table table = {{0}, 0};
+    unsigned i;
+    for (i = 0; i < CONSTRAINTS; i++) {
+        add(&table, kind, first, second);
+    }
+    return table;
+}
+
 /*
- * The longest table, 959 bytes: row 0 grants if predicate 23, and every other
- * entry stays open until row 0 is known, so the walk goes 25 visits deep. Each
- * entry names the one before it; the questions begin at row `asked`, which is
- * compared with the one before it, since a row against itself would be settled
- * at the root.
+ * The longest table, 1055 bytes: row 0 grants if predicate 23, and every other row
+ * and question stays open until row 0 is known, so the walk goes 25 visits deep. Each
+ * names the one before it; the questions begin at row `asked`, which is compared with
+ * the one before it, since a row against itself would be settled at the root. The
+ * constraints forbid a request that the walk comes to late.
  */
 static table longest(unsigned asked)
 {
     static const uint8_t kinds[] = {0x30, 0x31, 0x32, 0x33, 0x35, 0x38, 0x39, 0x3A, 0x3B};
-    table table = {{0x11, 23}, 2};
+    table table = constrained(0x50, 0, 1);
     unsigned i;
+    table.bytes[table.length++] = 0x11;
+    table.bytes[table.length++] = 23;
     for (i = 1; i <= LAST_ROW; i++) {
         add(&table, kinds[i % sizeof kinds], i - 1, i - 1);
     }
@@ -157,11 +173,26 @@ static table longest(unsigned asked)
     return table;
 }
 
+/*
+ * A table whose question is false as soon as predicate 0 is yes, while every constraint
+ * waits for predicate 23: below that visit every one is settled false and goes on.
+ */
+static table waiting(void)
+{
+    static const uint8_t rest[] = {0x11, 0x00, 0x00, 0x40, 0x00, 0x01};
+    table table = constrained(0x51, 0, 23);
+    memcpy(table.bytes + table.length, rest, sizeof rest);
+    table.length += sizeof rest;
+    return table;
+}
+
 /* The table with the longest text: the longest words, and the highest numbers. Its walks end at the root. */
 static table wordiest(void)
 {
-    table table = {{0x11, 23}, 2};
+    table table = constrained(0x50, 23, 23);
     unsigned i;
+    table.bytes[table.length++] = 0x11;
+    table.bytes[table.length++] = 23;
     for (i = 1; i <= LAST_ROW; i++) {
         add(&table, 0x38, i - 1, i - 1);
     }
@@ -269,31 +300,37 @@ int main(void)
 {
     static uint8_t text[LONG_TEXT], out[MOST_BYTES];
     const table open = longest(LAST_ROW), free_row = longest(LAST_ROW - 1), empty = {{0}, 0};
-    const table wordy = wordiest();
+    const table wordy = wordiest(), patient = waiting();
     const struct {
         uint32_t refusal;
         table table;
     } refused[] = {
-        {PIER_KIND_NOT_LISTED, damaged(959, 956, 0x12)},
-        {PIER_ROW_AFTER_QUESTION, damaged(962, 959, 0x30)},
-        {PIER_TOO_MANY_ROWS, damaged(959, 767, 0x30)},
-        {PIER_TOO_MANY_QUESTIONS, damaged(962, 959, 0x40)},
-        {PIER_BODY_CUT_SHORT, damaged(958, 956, 0x43)},
-        {PIER_PREDICATE_ABOVE_23, damaged(959, 764, 0x11)},
-        {PIER_MAY_NOT_BE_NAMED, damaged(959, 958, LAST_QUESTION)},
+        {PIER_KIND_NOT_LISTED, damaged(LONGEST, LONGEST - 3, 0x12)},
+        {PIER_OUT_OF_ORDER, damaged(LONGEST + 3, LONGEST, 0x30)},
+        {PIER_OUT_OF_ORDER, damaged(LONGEST + 3, LONGEST, 0x50)},
+        {PIER_TOO_MANY_ROWS, damaged(LONGEST, ROWS + 767, 0x30)},
+        {PIER_TOO_MANY_QUESTIONS, damaged(LONGEST + 3, LONGEST, 0x40)},
+        {PIER_TOO_MANY_CONSTRAINTS, damaged(LONGEST, ROWS, 0x51)},
+        {PIER_BODY_CUT_SHORT, damaged(LONGEST - 1, LONGEST - 3, 0x43)},
+        {PIER_PREDICATE_ABOVE_23, damaged(LONGEST, ROWS + 764, 0x11)},
+        {PIER_PREDICATE_ABOVE_23, damaged(LONGEST, ROWS - 1, 24)},
+        {PIER_MAY_NOT_BE_NAMED, damaged(LONGEST, LONGEST - 1, LAST_QUESTION)},
     };
     /* Made here first, so that linking memcpy and memset at their first use is not counted. */
     pier_counts counts = pier_read(open.bytes, open.length);
     pier_verdict_reply verdict = pier_verdict(open.bytes, open.length, LAST_QUESTION, VISITS);
     pier_written written = pier_to_text(wordy.bytes, wordy.length, text, sizeof text);
     pier_written back = pier_from_text(text, written.length, out, sizeof out);
+    pier_verdict_reply late = pier_verdict(patient.bytes, patient.length, 0, VISITS);
     int status = 0;
     size_t i;
 
-    require(open.length == 959 && counts.rows == 256 && counts.questions == 64 &&
+    require(open.length == LONGEST && counts.rows == 256 && counts.questions == 64 &&
                 counts.predicates == 24,
             "the longest table is accepted");
     require(verdict.reply == PIER_UNFINISHED, "its last question stays open");
+    require(late.reply == PIER_FAILS && late.request == 0x800001 && late.visits == 27,
+            "the walk goes on until predicate 23 is known");
     require(written.length == PIER_TEXT_BYTES, "the longest text is as long as the header says");
     require(back.length == wordy.length && memcmp(out, wordy.bytes, wordy.length) == 0,
             "the longest text reads as its table");
@@ -305,6 +342,7 @@ int main(void)
     measure_all(&free_row);
     measure_all(&empty);
     measure_all(&wordy);
+    measure_all(&patient);
     measure_texts(&wordy, text);
     for (i = 0; i < sizeof refused / sizeof *refused; i++) {
         require(measure(READ, &refused[i].table, 0, 0, 0, 0) == refused[i].refusal,
