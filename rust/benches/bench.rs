@@ -7,9 +7,10 @@
 use std::mem::ManuallyDrop;
 use std::time::{Duration, Instant};
 
+use pierstride::Verdict;
 use pierstride_oracle::random::Random;
 use pierstride_oracle::tables::{self, Shape};
-use pierstride_oracle::{texts, ROWS};
+use pierstride_oracle::{crafted, texts, ROWS};
 
 const SEED: u64 = 1;
 const BATCHES: usize = 5;
@@ -31,12 +32,18 @@ fn main() {
         "Each call starts from the table's bytes, or from the text's. Output buffers are not \
          cleared between calls."
     );
-    println!("A walk makes {VISITS} visits and is given per visit.");
+    println!(
+        "A walk makes {VISITS} visits and is given per visit, without constraints and with 32 of \
+         which none is ever broken."
+    );
     println!();
-    println!("rows  bytes  call             library ns      Rust ns  library/Rust");
+    println!("rows  bytes  call                    library ns      Rust ns  library/Rust");
     for rows in [16, 64, ROWS] {
         let table = table(rows);
         time_calls(rows, &table);
+        time_walk("walk, a visit", rows, &table);
+        let constraints = crafted::idle_constraints(PREDICATES);
+        time_walk("walk, 32 constraints", rows, &[constraints, table.clone()].concat());
         time_calls_that_write(rows, &table);
     }
     println!();
@@ -75,7 +82,7 @@ fn reporter(rows: usize, table: &[u8]) -> impl Fn(&str, f64, f64) {
     let bytes = table.len();
     move |call, library, oracle| {
         println!(
-            "{rows:>4}  {bytes:>5}  {call:<14}  {library:>11.1}  {oracle:>11.1}  {:>12.2}",
+            "{rows:>4}  {bytes:>5}  {call:<20}  {library:>12.1}  {oracle:>11.1}  {:>12.2}",
             library / oracle
         );
     }
@@ -103,8 +110,13 @@ fn time_calls(rows: usize, table: &[u8]) {
         time(|| pierstride::possible(hide(table), row, known, yes)),
         time(|| pierstride_oracle::possible(hide(table), row, known, yes)),
     );
-    report(
-        "walk, a visit",
+}
+
+fn time_walk(call: &str, rows: usize, table: &[u8]) {
+    let verdict = pierstride::verdict(table, 0, VISITS);
+    assert_eq!(verdict, Ok(Verdict::Holds { visits: VISITS }), "a walk that makes every visit");
+    reporter(rows, table)(
+        call,
         time(|| pierstride::verdict(hide(table), 0, VISITS)) / f64::from(VISITS),
         time(|| pierstride_oracle::verdict(hide(table), 0, VISITS)) / f64::from(VISITS),
     );
