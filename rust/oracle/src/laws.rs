@@ -12,13 +12,13 @@ mod texts;
 
 pub use self::texts::{check_round_trip, check_text};
 
-use self::constraints::split;
 use crate::call::{Answer, Call};
 use crate::calls::random_call;
 use crate::kinds::{Group, NOT_LISTED};
 use crate::random::Random;
 use crate::refusal::{self, Refusal};
 use crate::tables::garbage;
+use crate::texts::split_constraints;
 use crate::{read, truths, Decision, Table, Verdict, QUESTIONS, ROWS};
 
 /// Tables that use more predicates have too many requests to try them all.
@@ -220,7 +220,7 @@ fn check_sets(desk: &mut Desk, tried: &Tried, random: &mut Random) {
 fn check_strikes(desk: &mut Desk, tried: &Tried, random: &mut Random) {
     for struck in 0..tried.table.rows.len() {
         if let Some(bytes) = desk.strike(tried.bytes, struck) {
-            let (kept, before) = (split(&bytes).0, split(tried.bytes).0);
+            let [kept, before] = [&bytes, tried.bytes].map(|table| split_constraints(table).0);
             assert_eq!(kept, before, "{bytes:02x?} of {:02x?}", tried.bytes);
             check_struck_rows(desk, tried, struck, &bytes, random);
             for question in 0..tried.table.questions.len() {

@@ -1,6 +1,6 @@
 //! Texts of any entries, random texts, damaged ones, and a mixture of all sorts.
 
-use crate::kinds::{kind_of, word_of, Group, WORDS};
+use crate::kinds::{kind_of, word_of, Group, ON_TWO_PREDICATES, WORDS};
 use crate::random::Random;
 use crate::tables;
 
@@ -33,6 +33,12 @@ pub fn entries(bytes: &[u8]) -> impl Iterator<Item = &[u8]> {
         rest = &rest[length..];
         Some(entry)
     })
+}
+
+/// The bytes of the constraints that a table begins with, and the rest of it.
+pub fn split_constraints(bytes: &[u8]) -> (&[u8], &[u8]) {
+    let constraints = entries(bytes).take_while(|entry| ON_TWO_PREDICATES.contains(&entry[0]));
+    bytes.split_at(constraints.map(<[u8]>::len).sum())
 }
 
 fn line(entry: &[u8]) -> Vec<u8> {

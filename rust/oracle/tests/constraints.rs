@@ -3,7 +3,7 @@
 
 mod share;
 
-use pierstride_oracle::kinds::{ONLY_IF, ON_TWO_PREDICATES};
+use pierstride_oracle::kinds::ONLY_IF;
 use pierstride_oracle::random::Random;
 use pierstride_oracle::{read, tables, texts, verdict, Refusal};
 
@@ -17,12 +17,6 @@ const TABLES: usize = 100;
 
 fn walks_differ(table: &[u8], other: &[u8], question: u32) -> Result<bool, Refusal> {
     Ok(verdict(table, question, VISITS)? != verdict(other, question, VISITS)?)
-}
-
-/// The table without its constraints.
-fn without_constraints(table: &[u8]) -> Vec<u8> {
-    let rest = texts::entries(table).filter(|entry| !ON_TWO_PREDICATES.contains(&entry[0]));
-    rest.flatten().copied().collect()
 }
 
 /// The table with the two predicates of every "only if" exchanged.
@@ -60,9 +54,10 @@ impl Shares {
         if table.constraints.is_empty() {
             return;
         }
-        let (without, turned_round) = (without_constraints(bytes), turned_round(bytes));
+        let (_, without) = texts::split_constraints(bytes);
+        let turned_round = turned_round(bytes);
         for question in 0..table.questions.len() as u32 {
-            self.without.count(walks_differ(bytes, &without, question));
+            self.without.count(walks_differ(bytes, without, question));
             self.turned_round.count(walks_differ(bytes, &turned_round, question));
         }
     }

@@ -7,7 +7,7 @@ use super::{Desk, Tried};
 use crate::kinds::{IF_PREDICATE, NEVER_BOTH, ONLY_IF, ON_TWO_PREDICATES};
 use crate::possible::{decision_sets, truth_sets, Choice};
 use crate::random::Random;
-use crate::texts::entries;
+use crate::texts::{entries, split_constraints};
 use crate::{read, Table, Verdict};
 
 /// Does the request with this yes mask keep every constraint of a table?
@@ -18,12 +18,6 @@ pub(super) fn are_kept(bytes: &[u8], yes: u32) -> bool {
         [ONLY_IF, p, q] => !is_yes(p) || is_yes(q),
         _ => true,
     })
-}
-
-/// The bytes of a table's constraints, and the rest of it.
-pub(super) fn split(bytes: &[u8]) -> (&[u8], &[u8]) {
-    let constraints = entries(bytes).take_while(|entry| ON_TWO_PREDICATES.contains(&entry[0]));
-    bytes.split_at(constraints.map(<[u8]>::len).sum())
 }
 
 /// Checks every law of constraints on an accepted table.
@@ -45,7 +39,7 @@ fn check_predicates(desk: &mut Desk, tried: &Tried) {
 
 /// Constraints change no decision and no set.
 fn check_rows(desk: &mut Desk, tried: &Tried, random: &mut Random) {
-    let rest = split(tried.bytes).1;
+    let (_, rest) = split_constraints(tried.bytes);
     for row in 0..tried.table.rows.len() {
         for yes in tried.every_request() {
             assert_eq!(desk.decide(rest, row, yes), tried.decision(row, yes), "row {row}");
@@ -158,7 +152,7 @@ fn end(request: Option<u32>, visits: u32) -> Verdict {
 
 /// Without constraints the walk is document 01's.
 fn check_plain_walk(desk: &mut Desk, tried: &Tried) {
-    let rest = split(tried.bytes).1;
+    let (_, rest) = split_constraints(tried.bytes);
     let table = read(rest).expect("an accepted table without its constraints");
     for question in 0..table.questions.len() {
         let mut visits = 0;

@@ -4,11 +4,10 @@
 //! Some of them compare with document 01's independent choices, which the oracle has
 //! beside L3's.
 
-use super::constraints::split;
 use super::{Desk, Tried};
 use crate::kinds::{Group, BOTH, COMPARISONS, IF_PREDICATE, ON_TWO_ROWS};
 use crate::random::Random;
-use crate::texts::entries;
+use crate::texts::{entries, split_constraints};
 use crate::{possible_by, verdict_by, Choice, Decision, Part, Verdict};
 
 /// Checks every law of equal numbers on an accepted table. It must be small, for there must
@@ -77,7 +76,7 @@ fn end(verdict: Verdict) -> (Option<u32>, u32) {
 /// 2i and 2i + 1. A body names the first of the two, and of two equal numbers both: so no
 /// row's or question's body has equal numbers.
 fn doubled(bytes: &[u8]) -> Vec<u8> {
-    let (constraints, rest) = split(bytes);
+    let (constraints, rest) = split_constraints(bytes);
     let twins = |entry: &[u8]| {
         let mut twin = entry.to_vec();
         if !IF_PREDICATE.contains(&entry[0]) {
