@@ -1,18 +1,22 @@
--- Laws of one entry: its size, and its bytes in an output.
+-- Laws of one entry: its size, what it uses, and its bytes in an output.
 -- Assumes nothing.
 use mathlib.Core.Path.{_≡_, refl, ap, _∙_}
+use mathlib.Core.Bool.{cond}
 use mathlib.Core.List.{List, [], _∷_, _++_}
-use Prim.Native.Nat.{ℕ, zero, suc, _+_, _-_, _≤_, _<_}
+use Prim.Native.Nat.{ℕ, zero, suc, _+_, _-_, _≤_, _<_, max}
 use native.Mathlib.Omega.{arith}
 use lib.ListN.{length, take, drop, set}
+use lib.Dec.{ltb}
 use borrow.Author.Tests.{le-leb, lt-leb}
 use Rattle.kinds.specs.declared.RowKind.the-variants.{Always, DenyIf, GrantIf, One, Two}
 use Rattle.kinds.specs.declared.QuestionKind.the-variants.{Compare, Not, Both}
+use Rattle.kinds.specs.declared.Names.{Names}
 use Rattle.kinds.specs.declared.Kind.{Kind}
-use Rattle.kinds.specs.declared.Kind.the-variants.{Row, Question}
+use Rattle.kinds.specs.declared.ConstraintKind.the-variants.{NeverBoth, OnlyIf}
+use Rattle.kinds.specs.declared.Kind.the-variants.{Row, Question, Constraint}
 use Rattle.entries.specs.declared.Entry.{Entry}
 use Rattle.kinds.specs.Kinds.{formOf}
-use Rattle.entries.specs.Entries.{numbersOf, sizeOf, bytesOf, onto}
+use Rattle.entries.specs.Entries.{numbersOf, usedBy, highestOf, sizeOf, bytesOf, onto}
 use Rattle.entries.proofs.Numbers.{by-order}
 
 -- a body has at most two numbers, and an entry one byte more than its body
@@ -25,6 +29,8 @@ few (Row (Two op)) = omega arith
 few (Question (Compare o)) = omega arith
 few (Question Not) = omega arith
 few (Question Both) = omega arith
+few (Constraint NeverBoth) = omega arith
+few (Constraint OnlyIf) = omega arith
 
 pub length-front : (n : ℕ) (a b : ℕ) → n < 3 → length (take n (a ∷ b ∷ [])) ≡ n
 length-front zero a b h = refl
@@ -35,6 +41,16 @@ length-front (suc (suc (suc n))) a b h = absurd (omega arith)
 pub size : (e : Entry) → sizeOf e ≡ suc (numbersOf e)
 unfolding bytesOf
 size e = ap suc (length-front (numbersOf e) (e .a) (e .b) (few (e .kind)))
+
+-- what an entry uses, by its two numbers
+abbrev pub usedAt : Names → ℕ → ℕ → ℕ → ℕ
+usedAt names numbers i x = cond (ltb i numbers) (usedBy names x) 0
+
+pub used-by-both : (names : Names) (n a b : ℕ) → n < 3 → max (usedAt names n 0 a) (usedAt names n 1 b) ≡ highestOf names (take n (a ∷ b ∷ []))
+used-by-both names zero a b h = omega arith
+used-by-both names (suc zero) a b h = refl
+used-by-both names (suc (suc zero)) a b h = omega arith
+used-by-both names (suc (suc (suc n))) a b h = absurd (omega arith)
 
 -- an entry's bytes onto the front of an output that is too short, and of one that is long enough
 pub onto-short : (e : Entry) (out : List ℕ) → length out ≤ numbersOf e → out ≡ onto (bytesOf e) out

@@ -1,5 +1,5 @@
 -- One entry and its bytes (01, "The table, byte by byte").
-use Prim.Native.Nat.{ℕ, _+_}
+use Prim.Native.Nat.{ℕ, _+_, max}
 use mathlib.Core.Bool.{Bool, cond}
 use mathlib.Core.List.{List, [], _∷_, _++_}
 use lib.ListN.{length, take, drop}
@@ -51,15 +51,20 @@ bodySize kind = formOf kind .numbers
 abbrev pub blank : Entry
 blank = record { kind = Row (Always U); a = 0; b = 0 }
 
--- one more than the predicate that an entry uses; 0 if it uses none
+-- one more than the predicate that a number is, by what it names; 0 if it names none
 abbrev pub usedBy : Names → ℕ → ℕ
 usedBy Nothing a = 0
 usedBy Predicates a = a + 1
 usedBy Rows a = 0
 usedBy Questions a = 0
 
+-- one more than the highest predicate that an entry uses; 0 if it uses none
+abbrev pub highestOf : Names → List ℕ → ℕ
+highestOf names [] = 0
+highestOf names (x ∷ more) = max (usedBy names x) (highestOf names more)
+
 abbrev pub uses : Entry → ℕ
-uses e = usedBy (namesOf e) (e .a)
+uses e = highestOf (namesOf e) (numbersIn e)
 
 -- bytes written onto the front of an output, where they fit
 unfoldable pub onto : List ℕ → List ℕ → List ℕ

@@ -1,4 +1,5 @@
--- What the promises of this crate mean: refusals and what a call says, one entry, rows under new numbers, and what a call writes.
+-- What the promises of this crate mean: lists, refusals and what a call says, one entry, rows under new numbers, and what a call writes.
+pub mod Lists
 pub mod Refusals
 pub mod Said
 pub mod Entries

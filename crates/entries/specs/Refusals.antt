@@ -1,4 +1,4 @@
--- The refusals by their numbers (01, "When we say no"; 02, L2).
+-- The refusals by their numbers (01, "When we say no"; 02, L2 and L5).
 use Prim.Native.Nat.{ℕ}
 use mathlib.Core.Bool.{Bool, false, cond, _||_}
 use mathlib.Core.List.{List, [], _∷_}
@@ -20,9 +20,9 @@ predicateTooHigh = 3
 abbrev pub notToBeNamed : ℕ
 notToBeNamed = 4
 
--- "a row after a question"
-abbrev pub rowAfterQuestion : ℕ
-rowAfterQuestion = 5
+-- "a row after a question", "also when 50 or 51 follows a row or question" (02, L5)
+abbrev pub outOfOrder : ℕ
+outOfOrder = 5
 
 -- "a 257th row"
 abbrev pub tooManyRows : ℕ
@@ -56,6 +56,10 @@ unknownWord = 12
 abbrev pub misspelt : ℕ
 misspelt = 13
 
+-- "a 33rd such entry" (02, L5)
+abbrev pub tooManyConstraints : ℕ
+tooManyConstraints = 14
+
 -- 8 where what was asked for is missing; 0 where it is there
 abbrev pub ifMissing : Bool → ℕ
 ifMissing missing = cond missing notThere 0
@@ -63,14 +67,14 @@ ifMissing missing = cond missing notThere 0
 -- those of reading, in the order in which they are looked for at an entry: first these, whose place is the kind byte's, then these, whose place is a
 -- number's (02, L1)
 abbrev pub atKindByte : List ℕ
-atKindByte = unlisted ∷ rowAfterQuestion ∷ tooManyRows ∷ tooManyQuestions ∷ cutShort ∷ []
+atKindByte = unlisted ∷ outOfOrder ∷ tooManyRows ∷ tooManyQuestions ∷ tooManyConstraints ∷ cutShort ∷ []
 
 abbrev pub atNumber : List ℕ
 atNumber = predicateTooHigh ∷ notToBeNamed ∷ []
 
 -- those that an entry with a whole body may bring, and those of a text's spelling
 abbrev pub ofEntries : List ℕ
-ofEntries = rowAfterQuestion ∷ tooManyRows ∷ tooManyQuestions ∷ atNumber
+ofEntries = outOfOrder ∷ tooManyRows ∷ tooManyQuestions ∷ tooManyConstraints ∷ atNumber
 
 abbrev pub ofSpelling : List ℕ
 ofSpelling = unknownWord ∷ misspelt ∷ []

@@ -1,14 +1,17 @@
 // One entry: its bytes, what it uses and names, and the entry written into the front of a lent output. The refusals stand in the module below.
 pub mod refusals;
 
+use kinds::Form;
 use kinds::Kind;
 use kinds::Names;
 ghost use mathlib.Core.Path.{_≡_};
-ghost use Prim.Native.Nat.{_≤_, _<_};
-ghost use Rattle.entries.specs.Entries.{numberLimit, sizeLimit, bodySize, sizeOf, uses, bytesOf, onto};
+ghost use mathlib.Core.Bool.{cond};
+ghost use lib.Dec.{ltb};
+ghost use Prim.Native.Nat.{_≤_, _<_, min, max};
+ghost use Rattle.entries.specs.Entries.{numberLimit, sizeLimit, bodySize, sizeOf, usedBy, uses, bytesOf, onto};
 ghost use Rattle.entries.specs.Renaming.{namesRow};
 
-// A row or a question: its kind, and its numbers; 0 for one that its kind has not.
+// A row, a question or a constraint: its kind, and its numbers; 0 for one that its kind has not.
 pub struct Entry {
     pub kind: Kind,
     pub a: u8,
@@ -43,20 +46,43 @@ pub fn size_of(e: Entry) -> usize
     body_size(kind) + 1
 }
 
-// One more than the predicate that an entry uses; 0 if it uses none.
+// The smaller of two numbers, and the larger.
+pub fn fewer(x: usize, y: usize) -> usize
+    ensures { λ r. ⌜ r ≡ min x y ⌝ }
+{
+    if x < y { x } else { y }
+}
+
+pub fn larger(x: usize, y: usize) -> usize
+    ensures { λ r. ⌜ r ≡ max x y ⌝ }
+{
+    if x < y { y } else { x }
+}
+
+// One more than the predicate that number i of a body is; 0 if it is not there or names none.
+fn used_at(form: Form, i: usize, x: u8) -> usize
+    ensures { λ r. ⌜ (r ≡ cond (ltb i (form .numbers)) (usedBy (form .names) x) 0) × (r ≤ numberLimit) ⌝ }
+{
+    let names = form.names;
+    if form.numbers <= i {
+        return 0;
+    }
+    let predicate = index(x);
+    match names {
+        Names::Nothing => 0,
+        Names::Predicates => predicate + 1,
+        Names::Rows => 0,
+        Names::Questions => 0,
+    }
+}
+
+// One more than the highest predicate that an entry uses; 0 if it uses none.
 pub fn uses_of(e: Entry) -> usize
     ensures { λ r. ⌜ (r ≡ uses e) × (r ≤ numberLimit) ⌝ }
 {
     let kind = e.kind;
     let form = kinds::form_of(kind);
-    let names = form.names;
-    let a = index(e.a);
-    match names {
-        Names::Nothing => 0,
-        Names::Predicates => a + 1,
-        Names::Rows => 0,
-        Names::Questions => 0,
-    }
+    larger(used_at(form, 0, e.a), used_at(form, 1, e.b))
 }
 
 // Whether number i of an entry is there and names a row.

@@ -1,4 +1,4 @@
-// The refusals by their numbers (01, "When we say no"; 02, L2), a refusal with its place, and what a call that writes answers.
+// The refusals by their numbers (01, "When we say no"; 02, L2 and L5), a refusal with its place, and what a call that writes answers.
 ghost use mathlib.Core.Path.{_≡_};
 ghost use Rattle.entries.specs.Said.{refusal};
 
@@ -10,7 +10,7 @@ pub const PREDICATE_TOO_HIGH: u8 = 3;
 
 pub const NOT_TO_BE_NAMED: u8 = 4;
 
-pub const ROW_AFTER_QUESTION: u8 = 5;
+pub const OUT_OF_ORDER: u8 = 5;
 
 pub const TOO_MANY_ROWS: u8 = 6;
 
@@ -27,6 +27,8 @@ pub const OUTPUT_TOO_SHORT: u8 = 11;
 pub const UNKNOWN_WORD: u8 = 12;
 
 pub const MISSPELT: u8 = 13;
+
+pub const TOO_MANY_CONSTRAINTS: u8 = 14;
 
 // A refusal: its number and its place.
 pub struct Refusal {

@@ -15,11 +15,12 @@ use Rattle.operators.specs.declared.TwoRow.the-variants.{TruthMeet, TruthJoin, 
 use Rattle.operators.specs.declared.TwoRow.the-variants.{Guard, OverrideU, OverrideD, OverrideG, OverrideC}
 use Rattle.belnap.specs.declared.orders.Order.the-variants.{Truth, Knowledge}
 use Rattle.kinds.specs.declared.Kind.{Kind}
-use Rattle.kinds.specs.declared.Kind.the-variants.{Row, Question}
+use Rattle.kinds.specs.declared.Kind.the-variants.{Row, Question, Constraint}
 use Rattle.kinds.specs.declared.RowKind.the-variants.{Always, DenyIf, GrantIf, One, Two}
 use Rattle.kinds.specs.declared.QuestionKind.the-variants.{Compare, Not, Both}
+use Rattle.kinds.specs.declared.ConstraintKind.the-variants.{NeverBoth, OnlyIf}
 use Rattle.kinds.specs.declared.Announced.the-variants.{Listed, Unlisted}
-use Rattle.kinds.specs.Kinds.{formOf, kinds, among, kindOf, isRow, isQuestion, asRow, asQuestion}
+use Rattle.kinds.specs.Kinds.{formOf, kinds, among, kindOf, isRow, isQuestion, isConstraint, asRow, asQuestion, asConstraint}
 
 -- the kind among some that passes a test, passes it; and one that is found there has what all of these have
 pub among-passes : (passes : Kind → Bool) (l : List Kind) (kind : Kind) → among passes l ≡ Listed kind → passes kind ≡ true
@@ -94,6 +95,8 @@ kind-of-byte (Question (Compare Truth)) = refl
 kind-of-byte (Question (Compare Knowledge)) = refl
 kind-of-byte (Question Not) = refl
 kind-of-byte (Question Both) = refl
+kind-of-byte (Constraint NeverBoth) = refl
+kind-of-byte (Constraint OnlyIf) = refl
 
 -- what all kinds have, each has: so a law of the kinds is one computation
 pub each-kind : (has : Kind → Bool) → all has kinds ≡ true → (kind : Kind) → has kind ≡ true
@@ -117,11 +120,18 @@ past-three (suc (suc zero)) a b c d = absurd (c refl)
 past-three (suc (suc (suc zero))) a b c d = absurd (d refl)
 past-three (suc (suc (suc (suc n)))) a b c d = omega arith
 
--- a row's kind, and a question's
+-- a row's kind, a question's, and a constraint's
 pub is-row : (kind : Kind) → isRow kind ≡ true → kind ≡ Row (asRow kind)
 is-row (Row k) h = refl
 is-row (Question k) h = never (sym h)
+is-row (Constraint k) h = never (sym h)
 
 pub is-question : (kind : Kind) → isQuestion kind ≡ true → kind ≡ Question (asQuestion kind)
 is-question (Row k) h = never (sym h)
 is-question (Question k) h = refl
+is-question (Constraint k) h = never (sym h)
+
+pub is-constraint : (kind : Kind) → isConstraint kind ≡ true → kind ≡ Constraint (asConstraint kind)
+is-constraint (Row k) h = never (sym h)
+is-constraint (Question k) h = never (sym h)
+is-constraint (Constraint k) h = refl

@@ -1,4 +1,4 @@
--- The table of kinds (01, "The table, byte by byte").
+-- The table of kinds (01, "The table, byte by byte"; 02, L5).
 use Prim.Native.Nat.{ℕ}
 use mathlib.Core.Bool.{Bool, true, false, cond}
 use mathlib.Core.List.{List, [], _∷_, _++_, map}
@@ -18,8 +18,10 @@ use Rattle.kinds.specs.declared.RowKind.{RowKind}
 use Rattle.kinds.specs.declared.RowKind.the-variants.{Always, DenyIf, GrantIf, One, Two}
 use Rattle.kinds.specs.declared.QuestionKind.{QuestionKind}
 use Rattle.kinds.specs.declared.QuestionKind.the-variants.{Compare, Not, Both}
+use Rattle.kinds.specs.declared.ConstraintKind.{ConstraintKind}
+use Rattle.kinds.specs.declared.ConstraintKind.the-variants.{NeverBoth, OnlyIf}
 use Rattle.kinds.specs.declared.Kind.{Kind}
-use Rattle.kinds.specs.declared.Kind.the-variants.{Row, Question}
+use Rattle.kinds.specs.declared.Kind.the-variants.{Row, Question, Constraint}
 use Rattle.kinds.specs.declared.Announced.{Announced}
 use Rattle.kinds.specs.declared.Announced.the-variants.{Listed, Unlisted}
 use Rattle.kinds.specs.declared.Names.{Names}
@@ -63,6 +65,8 @@ formOf (Row (Two op)) = formWith (byteOfTwo op) 2 Rows
 formOf (Question (Compare o)) = formWith (byteOfOrder o) 2 Rows
 formOf (Question Not) = formWith 0x42 1 Questions
 formOf (Question Both) = formWith 0x43 2 Questions
+formOf (Constraint NeverBoth) = formWith 0x50 2 Predicates
+formOf (Constraint OnlyIf) = formWith 0x51 2 Predicates
 
 -- every kind there is
 abbrev pub rowKinds : List RowKind
@@ -71,8 +75,11 @@ rowKinds = map Always everyDecision ++ DenyIf ∷ GrantIf ∷ map One everyOneRo
 abbrev pub questionKinds : List QuestionKind
 questionKinds = map Compare everyOrder ++ Not ∷ Both ∷ []
 
+abbrev pub constraintKinds : List ConstraintKind
+constraintKinds = NeverBoth ∷ OnlyIf ∷ []
+
 abbrev pub kinds : List Kind
-kinds = map Row rowKinds ++ map Question questionKinds
+kinds = map Row rowKinds ++ map Question questionKinds ++ map Constraint constraintKinds
 
 -- the first among these that passes a test
 abbrev pub among : (Kind → Bool) → List Kind → Announced
@@ -83,20 +90,34 @@ among passes (kind ∷ more) = cond (passes kind) (Listed kind) (among passes mo
 unfoldable pub kindOf : ℕ → Announced
 kindOf k = among (λ kind. eqb k (formOf kind .byte)) kinds
 
--- whether a kind is a row's, and whether it is a question's
+-- whether a kind is a row's, whether it is a question's, and whether it is a constraint's
 abbrev pub isRow : Kind → Bool
 isRow (Row k) = true
 isRow (Question k) = false
+isRow (Constraint k) = false
 
 abbrev pub isQuestion : Kind → Bool
 isQuestion (Row k) = false
 isQuestion (Question k) = true
+isQuestion (Constraint k) = false
 
--- a question is no row: it reads as always u; a row is no question: it reads as 43, "both", of the questions with its numbers
+abbrev pub isConstraint : Kind → Bool
+isConstraint (Row k) = false
+isConstraint (Question k) = false
+isConstraint (Constraint k) = true
+
+-- what is no row reads as always u; what is no question as 43, "both", of the questions with its numbers; what is no constraint as 51, "only if"
 abbrev pub asRow : Kind → RowKind
 asRow (Row k) = k
 asRow (Question k) = Always U
+asRow (Constraint k) = Always U
 
 abbrev pub asQuestion : Kind → QuestionKind
 asQuestion (Row k) = Both
 asQuestion (Question k) = k
+asQuestion (Constraint k) = Both
+
+abbrev pub asConstraint : Kind → ConstraintKind
+asConstraint (Row k) = OnlyIf
+asConstraint (Question k) = OnlyIf
+asConstraint (Constraint k) = k

@@ -1,4 +1,4 @@
--- Each kind's word in the text of a table (02, L2), and the kind that a word spells.
+-- Each kind's word in the text of a table (02, L2 and L5), and the kind that a word spells.
 use Prim.Native.Nat.{ℕ, zero, suc, _+_, _-_, _*_, _/_, _%_, _^_}
 use Prim.Native.Char.{code}
 use Prim.Native.String.{String, [] as nothing, _∷_ as _then_}
@@ -14,8 +14,9 @@ use Rattle.operators.specs.declared.TwoRow.the-variants.{Guard, OverrideU, Over
 use Rattle.belnap.specs.declared.orders.Order.the-variants.{Truth, Knowledge}
 use Rattle.kinds.specs.declared.RowKind.the-variants.{Always, DenyIf, GrantIf, One, Two}
 use Rattle.kinds.specs.declared.QuestionKind.the-variants.{Compare, Not, Both}
+use Rattle.kinds.specs.declared.ConstraintKind.the-variants.{NeverBoth, OnlyIf}
 use Rattle.kinds.specs.declared.Kind.{Kind}
-use Rattle.kinds.specs.declared.Kind.the-variants.{Row, Question}
+use Rattle.kinds.specs.declared.Kind.the-variants.{Row, Question, Constraint}
 use Rattle.kinds.specs.declared.Announced.{Announced}
 use Rattle.kinds.specs.declared.words.Word.{Word}
 use Rattle.kinds.specs.Kinds.{formOf, kinds, among}
@@ -46,6 +47,8 @@ spelling (Question (Compare Truth)) = "truth-at-or-below"
 spelling (Question (Compare Knowledge)) = "knowledge-at-or-below"
 spelling (Question Not) = "not"
 spelling (Question Both) = "both"
+spelling (Constraint NeverBoth) = "never-both"
+spelling (Constraint OnlyIf) = "only-if"
 
 -- a text's bytes: its letters stand for themselves
 abbrev pub bytes : String → List ℕ

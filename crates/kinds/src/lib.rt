@@ -26,9 +26,16 @@ pub enum QuestionKind {
     Both,
 }
 
+// The kinds of a constraint, which says what no request may bring.
+pub enum ConstraintKind {
+    NeverBoth,
+    OnlyIf,
+}
+
 pub enum Kind {
     Row(RowKind),
     Question(QuestionKind),
+    Constraint(ConstraintKind),
 }
 
 // A kind byte is in the list, or it is not.
@@ -82,6 +89,11 @@ pub fn kind_of(byte: u8) -> Announced
             1 => Announced::Listed(Kind::Question(QuestionKind::Compare(Order::Knowledge))),
             2 => Announced::Listed(Kind::Question(QuestionKind::Not)),
             3 => Announced::Listed(Kind::Question(QuestionKind::Both)),
+            _ => Announced::Unlisted,
+        },
+        5 => match low {
+            0 => Announced::Listed(Kind::Constraint(ConstraintKind::NeverBoth)),
+            1 => Announced::Listed(Kind::Constraint(ConstraintKind::OnlyIf)),
             _ => Announced::Unlisted,
         },
         _ => Announced::Unlisted,
@@ -216,31 +228,44 @@ fn question_form(kind: QuestionKind) -> Form
     }
 }
 
+// The form of a kind of constraint.
+fn constraint_form(kind: ConstraintKind) -> Form
+    ensures { λ r. ⌜ r ≡ formOf (Kind.Constraint kind) ⌝ }
+{
+    match kind {
+        ConstraintKind::NeverBoth => line(0x50, 2, Names::Predicates),
+        ConstraintKind::OnlyIf => line(0x51, 2, Names::Predicates),
+    }
+}
+
 pub fn form_of(kind: Kind) -> Form
     ensures { λ r. ⌜ r ≡ formOf kind ⌝ }
 {
     match kind {
         Kind::Row(row) => row_form(row),
         Kind::Question(question) => question_form(question),
+        Kind::Constraint(constraint) => constraint_form(constraint),
     }
 }
 
-// A question is no row: it reads as always u.
+// What is no row reads as always u.
 pub fn as_row(kind: Kind) -> RowKind
     ensures { λ r. ⌜ r ≡ asRow kind ⌝ }
 {
     match kind {
         Kind::Row(row) => row,
         Kind::Question(_) => RowKind::Always(Decision::U),
+        Kind::Constraint(_) => RowKind::Always(Decision::U),
     }
 }
 
-// A row is no question: it reads as "both".
+// What is no question reads as "both".
 pub fn as_question(kind: Kind) -> QuestionKind
     ensures { λ r. ⌜ r ≡ asQuestion kind ⌝ }
 {
     match kind {
         Kind::Row(_) => QuestionKind::Both,
         Kind::Question(question) => question,
+        Kind::Constraint(_) => QuestionKind::Both,
     }
 }

@@ -1,5 +1,6 @@
 // Each kind's word in the text of a table, and the kind that a word spells.
 use crate::Announced;
+use crate::ConstraintKind;
 use crate::Kind;
 use crate::QuestionKind;
 use crate::RowKind;
@@ -148,6 +149,17 @@ fn word_of_question(kind: QuestionKind) -> Word
     }
 }
 
+fn word_of_constraint(kind: ConstraintKind) -> Word
+    ensures { λ r. ⌜ r ≡ shownWord (wordOf (Kind.Constraint kind)) ⌝ }
+{
+    match kind {
+        // never-both
+        ConstraintKind::NeverBoth => lettered(0x6e657665722d626f, 0x7468000000000000, 0, 10),
+        // only-if
+        ConstraintKind::OnlyIf => lettered(0x6f6e6c792d696600, 0, 0, 7),
+    }
+}
+
 // A kind's word.
 pub fn word_of(kind: Kind) -> Word
     ensures { λ r. ⌜ r ≡ shownWord (wordOf kind) ⌝ }
@@ -155,6 +167,7 @@ pub fn word_of(kind: Kind) -> Word
     match kind {
         Kind::Row(row) => word_of_row(row),
         Kind::Question(question) => word_of_question(question),
+        Kind::Constraint(constraint) => word_of_constraint(constraint),
     }
 }
 
@@ -218,7 +231,7 @@ const GUESSES: [u8; 64] = [
     0x00,
     0x31,
     0x23,
-    0x00,
+    0x51,
     0x40,
     0x00,
     0x00,
@@ -238,7 +251,7 @@ const GUESSES: [u8; 64] = [
     0x22,
     0x20,
     0x00,
-    0x00,
+    0x50,
     0x00,
     0x00,
     0x38,

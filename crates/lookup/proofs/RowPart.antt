@@ -3,7 +3,7 @@
 use mathlib.Core.Path.{_≡_, refl, sym, ap, subst, _∙_}
 use mathlib.Core.Bool.{Bool, true, false}
 use mathlib.Core.List.{List, _∷_, _++_, append-assoc, append-nil}
-use Prim.Native.Nat.{ℕ, suc, _+_, _-_, _≤_, _<_}
+use Prim.Native.Nat.{ℕ, suc, _+_, _*_, _-_, _≤_, _<_}
 use native.Mathlib.Omega.{arith}
 use native.Mathlib.Numerals.{add-one}
 use native.Mathlib.Nat.{add-sub-cancel-left}
@@ -17,14 +17,15 @@ use Rattle.lookup.specs.declared.Part.{Part}
 use Rattle.lookup.specs.declared.Place.the-variants.{At, Missing}
 use Rattle.entries.specs.Refusals.{notThere, ifMissing}
 use Rattle.entries.specs.Said.{Said, answered, refusing, refusal, unless}
-use Rattle.entries.specs.Entries.{blank, sizeOf, bytesOf}
+use Rattle.entries.specs.Entries.{blank, sizeLimit, sizeOf, bytesOf}
 use Rattle.entries.proofs.Saying.{not-both}
 use Rattle.table.specs.Steps.{rowLimit}
 use Rattle.table.specs.Contents.{Contents, written}
 use Rattle.table.specs.Reading.{reading, tableOf}
 use Rattle.lookup.specs.Lookup.{partOf, placeOf, shownPlace, partAt}
 use Rattle.table.proofs.Padding.{padded-at, padded-front}
-use Rattle.table.proofs.Writing.{written-append, written-more, of-accepted}
+use Rattle.table.proofs.Writing.{Whole, written-append, written-more, of-accepted}
+use Rattle.table.proofs.Laws.{constraint-bytes}
 
 -- one row more adds its bytes to the start of the next
 pub start-more : (es : List Entry) (i : ℕ) → i < length es →
@@ -33,9 +34,13 @@ start-more es i h =
     let e = getD es i blank in
     rw (add-one i, take-suc es i blank h, written-more (take i es) e, length-append (written (take i es)) (bytesOf e))
 
--- so a row starts behind those before it
-pub start-is : (c : Contents) (r : ℕ) → r < length (c .rows) → partOf r c .start ≡ length (written (take r (c .rows)))
-start-is c r h = rw (append-nil (take (suc r) (c .rows)), ← add-one r) (omega (arith, start-more (c .rows) r h))
+-- so a row starts behind the constraints and the rows before it
+pub start-is : (c : Contents) (r : ℕ) → r < length (c .rows) →
+    partOf r c .start ≡ length (written (c .constraints)) + length (written (take r (c .rows)))
+start-is c r h =
+    let constraints = written (c .constraints) in
+    rw (append-nil (take (suc r) (c .rows)), written-append (c .constraints) (take (suc r) (c .rows)), ← add-one r)
+    (omega (arith, length-append constraints (written (take (r + 1) (c .rows))), start-more (c .rows) r h))
 
 -- what is said of a row that is there, and of one that is not
 pub place-there : (c : Contents) (r : ℕ) → r < length (c .rows) → placeOf (answered c) r ≡ answered (partOf r c)
@@ -47,13 +52,14 @@ unfolding placeOf
 place-missing c r h = rw (le-leb _ _ h)
 
 -- the part, from the struct of an accepted table
-pub found-part : (c : Contents) (r start n : ℕ) → r < length (c .rows) → start ≡ length (written (take r (tableOf c .rows))) →
+pub found-part : (c : Contents) → Whole c → (r start n : ℕ) → r < length (c .rows) →
+    start ≡ sizeLimit * length (c .constraints) + length (written (take r (tableOf c .rows))) →
     n ≡ sizeOf (getD (tableOf c .rows) r blank) → _≡_ {A = Part} (record { start = start; length = n }) (partOf r c)
 unfolding tableOf
-found-part c r start n h p q =
+found-part c w r start n h p q =
     let front = padded-front blank rowLimit (c .rows) r (omega arith) in
     let at = padded-at blank rowLimit (c .rows) r in
-    rw (p, q, front, at, start-is c r h)
+    rw (p, q, front, at, start-is c r h, constraint-bytes 0 (c .constraints) (w .constraints-sound))
 
 -- what a place tells of the reading
 pub place-tells : (x : Said Contents) (r : ℕ) (part : Part) → placeOf x r ≡ answered part →
@@ -73,7 +79,7 @@ module _ (s : List ℕ) (c : Contents) (r : ℕ) (q : reading s ≡ answered c) 
   own = bytesOf (getD (c .rows) r blank)
 
   abbrev pub front : List ℕ
-  front = written (take r (c .rows))
+  front = written (c .constraints) ++ written (take r (c .rows))
 
   abbrev pub back : List ℕ
   back = written (drop (suc r) (c .rows)) ++ written (c .questions)
@@ -81,17 +87,24 @@ module _ (s : List ℕ) (c : Contents) (r : ℕ) (q : reading s ≡ answered c) 
   pub around : front ++ (own ++ back) ≡ s
   unfolding written
   around =
-      let rows : written (c .rows) ≡ front ++ (own ++ written (drop (suc r) (c .rows))) =
+      let constraints = written (c .constraints) in
+      let rows : written (c .rows) ≡ written (take r (c .rows)) ++ (own ++ written (drop (suc r) (c .rows))) =
       ap written (split-at (c .rows) r blank h) ∙ written-append (take r (c .rows)) (getD (c .rows) r blank ∷ drop (suc r) (c .rows)) in
-      rw (rows, append-assoc, append-assoc) at (sym (written-append (c .rows) (c .questions)) ∙ of-accepted s c q .1)
+      append-assoc constraints (written (take r (c .rows))) (own ++ back)
+      ∙ ap (λ (l : List ℕ). constraints ++ l) (sym (rw (rows, append-assoc, append-assoc) at (written-append (c .rows) (c .questions))))
+      ∙ sym (written-append (c .constraints) (c .rows ++ c .questions)) ∙ of-accepted s c q .1
 
   -- the row's part lies inside, and holds the row's own bytes
   pub part-fits : partOf r c .start + partOf r c .length ≤ length s
-  part-fits = omega (arith, start-is c r h, ap length around, length-append front (own ++ back), length-append own back)
+  part-fits =
+      let before = length-append (written (c .constraints)) (written (take r (c .rows))) in
+      omega (arith, start-is c r h, before, ap length around, length-append front (own ++ back), length-append own back)
 
   pub part-own : partAt (answered (partOf r c)) s ≡ own
   unfolding partAt
-  part-own = rw (start-is c r h, ← around, drop-at front (own ++ back) (length front) refl, take-at own back (length own) refl)
+  part-own =
+      let before = sym (length-append (written (c .constraints)) (written (take r (c .rows)))) in
+      rw (start-is c r h, before, ← around, drop-at front (own ++ back) (length front) refl, take-at own back (length own) refl)
 
 -- "Asking for row r gives back that entry's own bytes"
 pub own-bytes : (s : List ℕ) (c : Contents) (r : ℕ) → reading s ≡ answered c → r < length (c .rows) →

@@ -13,7 +13,7 @@ use Rattle.table.specs.Contents.{Contents, encoded}
 
 -- the table that ends with row r: the row's own bytes are its last
 abbrev pub endingWith : ℕ → Contents → Contents
-endingWith r c = record { rows = take (suc r) (c .rows); questions = [] }
+endingWith r c = record { constraints = c .constraints; rows = take (suc r) (c .rows); questions = [] }
 
 abbrev pub partOf : ℕ → Contents → Part
 partOf r c = let size = sizeOf (getD (c .rows) r blank) in record { start = length (encoded (endingWith r c)) - size; length = size }

@@ -4,11 +4,11 @@ use entries::refusals::Refusal;
 use table::Outcome;
 use table::Table;
 ghost use mathlib.Core.Path.{_≡_};
-ghost use Prim.Native.Nat.{_+_, _*_, _≤_, _<_};
+ghost use Prim.Native.Nat.{_+_, _*_, _≤_};
 ghost use lib.ListN.{length, take};
 ghost use Rattle.entries.specs.Entries.{sizeLimit};
-ghost use Rattle.table.specs.Steps.{rowLimit};
 ghost use Rattle.entries.specs.Said.{whyOf};
+ghost use Rattle.table.specs.Steps.{rowLimit};
 ghost use Rattle.table.specs.Reading.{reading};
 ghost use Rattle.table.specs.Contents.{written};
 ghost use Rattle.lookup.specs.Lookup.{placeOf, shownPlace, startAt, partAt};
@@ -25,8 +25,8 @@ pub enum Place {
     Missing(Refusal),
 }
 
-// Where the bytes of a row start: behind those of the rows before it.
-fn start_of(t: Table, row: usize) -> usize
+// How many bytes the rows before a row have.
+fn bytes_before(t: Table, row: usize) -> usize
     requires { ⌜ (row ≤ rowLimit) × (rowLimit ≤ length (t .rows)) ⌝ }
     ensures { λ r. ⌜ (r ≡ length (written (take row (t .rows)))) × (r ≤ sizeLimit * rowLimit) ⌝ }
 {
@@ -56,10 +56,10 @@ pub fn find(table: &[u8], row: u32) -> Place
         return Place::Missing(Refusal::of(refusals::NOT_THERE));
     }
     let e = t.rows[at];
-    Place::At(Part {
-        start: start_of(t, at),
-        length: entries::size_of(e),
-    })
+    // each constraint has as many bytes as an entry can have
+    let start = entries::LONGEST * t.tally.constraints + bytes_before(t, at);
+    let length = entries::size_of(e);
+    Place::At(Part { start, length })
 }
 
 // The row's own bytes, as a part of the table that starts at the row's kind byte; an empty part where there is none.

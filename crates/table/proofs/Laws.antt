@@ -1,29 +1,31 @@
 -- What holds of every table that is accepted (01, "The table, byte by byte").
 -- Assumes nothing.
-use mathlib.Core.Path.{_≡_, ap}
-use mathlib.Core.Bool.{true}
-use mathlib.Core.List.{List, [], _∷_}
+use mathlib.Core.Path.{_≡_, refl, sym, ap, _∙_}
+use mathlib.Core.Bool.{Bool, true, false, cond}
+use mathlib.Core.List.{List, [], _∷_, _++_}
 use Prim.Native.Nat.{ℕ, zero, suc, _+_, _*_, _-_, _≤_, _<_}
 use native.Mathlib.Omega.{arith}
 use lib.ListN.{length, getD, length-append}
 use lib.Dec.{ltb}
 use borrow.Author.Tests.{ltb-true}
-use Rattle.belnap.proofs.Finite.{both-parts}
+use Rattle.belnap.proofs.Finite.{never, both-parts}
 use Rattle.kinds.specs.declared.RowKind.the-variants.{Always, DenyIf, GrantIf, One, Two}
-use Rattle.kinds.specs.declared.QuestionKind.the-variants.{Compare, Not, Both}
 use Rattle.kinds.specs.declared.Kind.{Kind}
-use Rattle.kinds.specs.declared.Kind.the-variants.{Row, Question}
+use Rattle.kinds.specs.declared.Names.{Names}
+use Rattle.kinds.specs.declared.Names.the-variants.{Nothing, Predicates, Rows, Questions}
+use Rattle.kinds.specs.declared.ConstraintKind.the-variants.{NeverBoth, OnlyIf}
+use Rattle.kinds.specs.declared.Kind.the-variants.{Row, Question, Constraint}
 use Rattle.entries.specs.declared.Entry.{Entry}
 use Rattle.table.specs.declared.steps.Tally.{Tally}
 use Rattle.entries.specs.Said.{answered}
-use Rattle.kinds.specs.Kinds.{formOf, asRow}
-use Rattle.entries.specs.Entries.{sizeLimit, blank, bytesOf, uses, usedBy}
-use Rattle.table.specs.Steps.{tally, predicateLimit, rowLimit, questionLimit}
+use Rattle.kinds.specs.Kinds.{formOf, isRow, isConstraint, asRow}
+use Rattle.entries.specs.Entries.{numbersOf, namesOf, sizeOf, sizeLimit, blank, bytesOf, uses, usedBy}
+use Rattle.table.specs.Steps.{tally, predicateLimit, rowLimit, questionLimit, constraintLimit, limit, namedAt, fits}
 use Rattle.table.specs.Contents.{Contents, Covers, highest, predicates, entries, written, encoded}
 use Rattle.table.specs.Reading.{reading}
 use Rattle.table.specs.Whole.{named}
-use Rattle.entries.proofs.OneEntry.{few, size}
-use Rattle.table.proofs.Writing.{Each, each-get, of-accepted, RowAt, QuestionAt}
+use Rattle.entries.proofs.OneEntry.{few, size, usedAt, used-by-both}
+use Rattle.table.proofs.Writing.{Sound, Each, each-get, of-accepted, ConstraintAt, RowAt, QuestionAt}
 
 -- an entry has at most three bytes
 written-short : (es : List Entry) → length (written es) ≤ sizeLimit * length es
@@ -33,37 +35,74 @@ written-short (e ∷ es) =
     let h = written-short es in
     omega (arith, length-append (bytesOf e) (written es), size e, few (e .kind), h)
 
--- no row uses a predicate above 23
-used-bound : (e : Entry) (before : Tally) → named e before ≡ true → uses e ≤ predicateLimit
-used-bound e before h = go (e .kind) (e .a) (e .b) h
+-- and a constraint three
+constraint-size : (e : Entry) → isConstraint (e .kind) ≡ true → sizeOf e ≡ sizeLimit
+constraint-size e h = size e ∙ ap suc (go (e .kind) h)
   where
-    go : (kind : Kind) (a b : ℕ) → named (record { kind = kind; a = a; b = b }) before ≡ true → usedBy (formOf kind .names) a ≤ predicateLimit
-    go (Row (Always v)) a b h = omega arith
-    go (Row DenyIf) a b h = omega (arith, ltb-true a predicateLimit (both-parts (ltb a predicateLimit) true h .0))
-    go (Row GrantIf) a b h = omega (arith, ltb-true a predicateLimit (both-parts (ltb a predicateLimit) true h .0))
-    go (Row (One op)) a b h = omega arith
-    go (Row (Two op)) a b h = omega arith
-    go (Question (Compare o)) a b h = omega arith
-    go (Question Not) a b h = omega arith
-    go (Question Both) a b h = omega arith
+    go : (kind : Kind) → isConstraint kind ≡ true → formOf kind .numbers ≡ 2
+    go (Row k) h = never (sym h)
+    go (Question k) h = never (sym h)
+    go (Constraint NeverBoth) h = refl
+    go (Constraint OnlyIf) h = refl
 
-highest-bound : (i : ℕ) (es : List Entry) → Each RowAt i es → highest es ≤ predicateLimit
+pub constraint-bytes : (i : ℕ) (es : List Entry) → Each ConstraintAt i es → length (written es) ≡ sizeLimit * length es
+unfolding written
+constraint-bytes i [] h = refl
+constraint-bytes i (e ∷ es) h =
+    omega (arith, length-append (bytesOf e) (written es), constraint-size e (h .0 .in-part), constraint-bytes (suc i) es (h .1))
+
+-- no entry uses a predicate above 23
+number-bound : (names : Names) (n i x : ℕ) (before : Tally) → namedAt n (limit names before) i x ≡ true → usedAt names n i x ≤ predicateLimit
+number-bound names n i x before h = go names (ltb i n) h
+  where
+    go : (names : Names) (there : Bool) → cond there (ltb x (limit names before)) true ≡ true → cond there (usedBy names x) 0 ≤ predicateLimit
+    go names false h = omega arith
+    go Nothing true h = omega arith
+    go Predicates true h = omega (arith, ltb-true x predicateLimit h)
+    go Rows true h = omega arith
+    go Questions true h = omega arith
+
+used-bound : (e : Entry) (before : Tally) → named e before ≡ true → uses e ≤ predicateLimit
+used-bound e before h =
+    let n = numbersOf e in
+    let parts = both-parts (fits e before 0 (e .a)) (fits e before 1 (e .b)) h in
+    let first = number-bound (namesOf e) n 0 (e .a) before (parts .0) in
+    let second = number-bound (namesOf e) n 1 (e .b) before (parts .1) in
+    omega (arith, used-by-both (namesOf e) n (e .a) (e .b) (few (e .kind)), first, second)
+
+highest-bound : (part : Kind → Bool) (before : ℕ → Tally) (i : ℕ) (es : List Entry) → Each (λ i. Sound part (before i)) i es → highest es ≤ predicateLimit
 unfolding highest
-highest-bound i [] h = omega arith
-highest-bound i (e ∷ es) h =
-    let a = used-bound e (tally i 0) (h .0 .names) in
-    let b = highest-bound (suc i) es (h .1) in
+highest-bound part before i [] h = omega arith
+highest-bound part before i (e ∷ es) h =
+    let a = used-bound e (before i) (h .0 .names) in
+    let b = highest-bound part before (suc i) es (h .1) in
     omega arith
 
 -- as a row, an entry uses no other predicate
 pub row-uses : (e : Entry) → usedBy (formOf (Row (asRow (e .kind))) .names) (e .a) ≤ uses e
-row-uses e = go (e .kind) (e .a)
+row-uses e = go (e .kind) (e .a) (e .b)
   where
-    go : (kind : Kind) (a : ℕ) → usedBy (formOf (Row (asRow kind)) .names) a ≤ usedBy (formOf kind .names) a
-    go (Row k) a = omega arith
-    go (Question k) a = omega arith
+    go : (kind : Kind) (a b : ℕ) → usedBy (formOf (Row (asRow kind)) .names) a ≤ uses (record { kind = kind; a = a; b = b })
+    go (Row (Always v)) a b = omega arith
+    go (Row DenyIf) a b = omega arith
+    go (Row GrantIf) a b = omega arith
+    go (Row (One op)) a b = omega arith
+    go (Row (Two op)) a b = omega arith
+    go (Question k) a b = omega arith
+    go (Constraint k) a b = omega arith
 
--- n covers the predicates that rows use
+-- as a constraint, its two predicates are among those that it uses
+pub constraint-uses : (e : Entry) → isConstraint (e .kind) ≡ true → (e .a < uses e) × (e .b < uses e)
+constraint-uses e h = go (e .kind) (e .a) (e .b) h
+  where
+    go : (kind : Kind) (a b : ℕ) → isConstraint kind ≡ true →
+        (a < uses (record { kind = kind; a = a; b = b })) × (b < uses (record { kind = kind; a = a; b = b }))
+    go (Row k) a b h = never (sym h)
+    go (Question k) a b h = never (sym h)
+    go (Constraint NeverBoth) a b h = (omega arith, omega arith)
+    go (Constraint OnlyIf) a b h = (omega arith, omega arith)
+
+-- n covers the predicates that rows and constraints use
 highest-covers : (es : List Entry) → Covers (highest es) es
 unfolding highest
 highest-covers [] i = omega arith
@@ -71,27 +110,41 @@ highest-covers (e ∷ es) zero = omega arith
 highest-covers (e ∷ es) (suc i) = let h = highest-covers es i in omega arith
 
 pub covered : (c : Contents) → Covers (predicates c) (c .rows)
-covered c = highest-covers (c .rows)
+covered c i = omega (arith, highest-covers (c .rows) i)
+
+pub constraints-covered : (c : Contents) → Covers (predicates c) (c .constraints)
+constraints-covered c i = omega (arith, highest-covers (c .constraints) i)
 
 -- an accepted table
 module _ (s : List ℕ) (c : Contents) (q : reading s ≡ answered c) where
+  -- a constraint names predicates below 24
+  pub constraint-sound : (i : ℕ) → i < length (c .constraints) → ConstraintAt i (getD (c .constraints) i blank)
+  constraint-sound = each-get ConstraintAt (c .constraints) blank (of-accepted s c q .0 .constraints-sound)
+
   -- row i names only rows below i and predicates below 24
-  pub row-sound : (i : ℕ) → i < length (c .rows) → RowAt i (getD (c .rows) i blank)
-  row-sound = each-get RowAt (c .rows) blank (of-accepted s c q .0 .rows-sound)
+  pub row-sound : (i : ℕ) → i < length (c .rows) → RowAt (length (c .constraints)) i (getD (c .rows) i blank)
+  row-sound = each-get (RowAt (length (c .constraints))) (c .rows) blank (of-accepted s c q .0 .rows-sound)
 
   -- question j names only rows of the table, and questions below j
-  pub question-sound : (j : ℕ) → j < length (c .questions) → QuestionAt (length (c .rows)) j (getD (c .questions) j blank)
-  question-sound = each-get (QuestionAt (length (c .rows))) (c .questions) blank (of-accepted s c q .0 .questions-sound)
+  pub question-sound : (j : ℕ) → j < length (c .questions) → QuestionAt (length (c .constraints)) (length (c .rows)) j (getD (c .questions) j blank)
+  question-sound = each-get (QuestionAt (length (c .constraints)) (length (c .rows))) (c .questions) blank (of-accepted s c q .0 .questions-sound)
 
-  -- at most 256 rows, 64 questions and 960 bytes, and n is at most 24
-  pub limits : (length (c .rows) ≤ rowLimit) × (length (c .questions) ≤ questionLimit) × (length s ≤ sizeLimit * (rowLimit + questionLimit)) ×
-      (predicates c ≤ predicateLimit)
+  -- at most 32 constraints, 256 rows, 64 questions and 1056 bytes, and n is at most 24
+  pub limits : (length (c .constraints) ≤ constraintLimit) × (length (c .rows) ≤ rowLimit) × (length (c .questions) ≤ questionLimit) ×
+      (length s ≤ sizeLimit * (constraintLimit + (rowLimit + questionLimit))) × (predicates c ≤ predicateLimit)
   limits =
-      let w = of-accepted s c q in (
+      let w = of-accepted s c q in
+      let many = length-append (c .constraints) (c .rows ++ c .questions) in
+      let others = length-append (c .rows) (c .questions) in (
+        w .0 .constraints-fit,
         w .0 .rows-fit,
         w .0 .questions-fit,
-        omega (arith, ap length (w .1), written-short (entries c), length-append (c .rows) (c .questions), w .0 .rows-fit, w .0 .questions-fit),
-        highest-bound 0 (c .rows) (w .0 .rows-sound),
+        omega (arith, ap length (w .1), written-short (entries c), many, others, w .0 .constraints-fit, w .0 .rows-fit, w .0 .questions-fit),
+        omega (
+          arith,
+          highest-bound isConstraint (λ i. tally i 0 0) 0 (c .constraints) (w .0 .constraints-sound),
+          highest-bound isRow (λ i. tally (length (c .constraints)) i 0) 0 (c .rows) (w .0 .rows-sound),
+        ),
       )
 
   -- its bytes are those of its contents

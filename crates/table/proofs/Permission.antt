@@ -1,73 +1,75 @@
--- Whether an entry may stand behind so many rows and questions: what room means, and which refusals are given, and where.
+-- Whether an entry may stand behind so many others: what room means, and which refusals are given, and where.
 -- Assumes nothing.
 use mathlib.Core.Path.{_≡_, refl, sym, ap, _∙_}
-use mathlib.Core.Bool.{Bool, true, false, cond, _&&_}
+use mathlib.Core.Bool.{Bool, true, false, cond, _&&_, _||_}
 use mathlib.Core.List.{[], _∷_}
 use mathlib.Core.Logic.{_⊎_, inl, inr, ⊎-elim}
 use Prim.Native.Nat.{ℕ, zero, suc, _-_, _≤_, _<_}
 use native.Mathlib.Omega.{arith}
 use lib.Dec.{ltb, eqb}
 use borrow.Author.Tests.{eqb-true, ltb-true, ltb-false, lt-ltb, le-ltb}
-use Rattle.belnap.proofs.Finite.{never, both-parts, or-part}
-use Rattle.kinds.specs.declared.RowKind.{RowKind}
-use Rattle.kinds.specs.declared.QuestionKind.{QuestionKind}
+use Rattle.belnap.proofs.Finite.{never, both-parts, or-part, neither}
 use Rattle.kinds.specs.declared.Kind.{Kind}
-use Rattle.kinds.specs.declared.Kind.the-variants.{Row, Question}
+use Rattle.kinds.specs.declared.Kind.the-variants.{Row, Question, Constraint}
 use Rattle.kinds.specs.declared.Names.{Names}
 use Rattle.kinds.specs.declared.Names.the-variants.{Nothing, Predicates, Rows, Questions}
 use Rattle.entries.specs.declared.Entry.{Entry}
 use Rattle.table.specs.declared.steps.Tally.{Tally}
 use Rattle.entries.specs.declared.refusals.Refusal.{Refusal}
-use Rattle.entries.specs.Refusals.{predicateTooHigh, notToBeNamed, rowAfterQuestion, tooManyRows, tooManyQuestions, atKindByte, atNumber, ofEntries, isAmong}
+use Rattle.entries.specs.Refusals.{predicateTooHigh, notToBeNamed, outOfOrder, tooManyRows, tooManyQuestions, tooManyConstraints}
+use Rattle.entries.specs.Refusals.{atKindByte, atNumber, ofEntries, isAmong}
 use Rattle.entries.specs.Said.{Said, answered, refusing, refusal, unless}
 use Rattle.entries.specs.Entries.{numbersOf, namesOf}
-use Rattle.table.specs.Steps.{rowLimit, questionLimit, numberPlace, noRoom, limit, namedAt, fits, firstUnfit, offending, misnamed, misnaming, permitted}
+use Rattle.table.specs.Steps.{rowLimit, questionLimit, constraintLimit, numberPlace, roomBy, noRoom, limit, namedAt, fits, firstUnfit}
+use Rattle.table.specs.Steps.{offending, misnamed, misnaming, permitted}
 use Rattle.table.specs.Whole.{named}
 use Rattle.entries.proofs.Numbers.{by-order}
 use Rattle.entries.proofs.Saying.{not-both, unless-none, unless-answered, unless-refusing}
 
--- what room means: a row needs a place and no question before it, a question a place
+-- what room means: an entry that does not come too late, and a place for it
+room-by-none : (late : Bool) (count limit full : ℕ) → 0 < full → roomBy late count limit full ≡ 0 → (late ≡ false) × (count < limit)
+room-by-none true count limit full h e = absurd (omega arith)
+room-by-none false count limit full h e = go (ltb count limit) refl e
+  where
+    go : (p : Bool) → ltb count limit ≡ p → _≡_ {A = ℕ} (cond p 0 full) 0 → (false ≡ false) × (count < limit)
+    go true p e = (refl, ltb-true _ _ p)
+    go false p e = absurd (omega arith)
+
+-- the refusal where there is no room, by each case
+pub room-by : (late : Bool) (count limit full r : ℕ) → (late ≡ true → r ≡ outOfOrder) → (late ≡ false → count < limit → r ≡ 0) →
+    (late ≡ false → limit ≤ count → r ≡ full) → r ≡ roomBy late count limit full
+room-by true count limit full r after room none = after refl
+room-by false count limit full r after room none =
+    by-order count limit (λ h. rw (lt-ltb _ _ h) (room refl h)) (λ h. rw (le-ltb _ _ h) (none refl h))
+
+-- a row has no question before it, a constraint no row and no question
 abbrev pub Room : Kind → Tally → Type 0
 Room (Row k) before = (before .rows < rowLimit) × (before .questions ≡ 0)
 Room (Question k) before = before .questions < questionLimit
+Room (Constraint k) before = (before .constraints < constraintLimit) × (before .rows ≡ 0) × (before .questions ≡ 0)
+
+none-before : (n : ℕ) → ltb 0 n ≡ false → n ≡ 0
+none-before n e = omega (arith, ltb-false 0 n e)
 
 pub room-of : (kind : Kind) (before : Tally) → noRoom kind before ≡ 0 → Room kind before
 unfolding noRoom
-room-of (Row k) before e = go (ltb 0 (before .questions)) refl (ltb (before .rows) rowLimit) refl e
-  where
-    go : (p : Bool) → ltb 0 (before .questions) ≡ p → (q : Bool) → ltb (before .rows) rowLimit ≡ q →
-        _≡_ {A = ℕ} (cond p rowAfterQuestion (cond q 0 tooManyRows)) 0 → (before .rows < rowLimit) × (before .questions ≡ 0)
-    go true p q r e = absurd (omega arith)
-    go false p true r e = (ltb-true _ _ r, (let h = ltb-false 0 (before .questions) p in omega arith))
-    go false p false r e = absurd (omega arith)
-room-of (Question k) before e = go (ltb (before .questions) questionLimit) refl e
-  where
-    go : (p : Bool) → ltb (before .questions) questionLimit ≡ p → _≡_ {A = ℕ} (cond p 0 tooManyQuestions) 0 → before .questions < questionLimit
-    go true p e = ltb-true _ _ p
-    go false p e = absurd (omega arith)
+room-of (Row k) before e =
+    let room = room-by-none (ltb 0 (before .questions)) (before .rows) rowLimit tooManyRows (omega arith) e in
+    (room .1, none-before (before .questions) (room .0))
+room-of (Question k) before e = room-by-none false (before .questions) questionLimit tooManyQuestions (omega arith) e .1
+room-of (Constraint k) before e =
+    let late = ltb 0 (before .rows) || ltb 0 (before .questions) in
+    let room = room-by-none late (before .constraints) constraintLimit tooManyConstraints (omega arith) e in
+    let none = neither (ltb 0 (before .rows)) (ltb 0 (before .questions)) (room .0) in
+    (room .1, none-before (before .rows) (none .0), none-before (before .questions) (none .1))
 
 pub room-for : (kind : Kind) (before : Tally) → Room kind before → noRoom kind before ≡ 0
 unfolding noRoom
 room-for (Row k) before h = rw (h .1) (simp (lt-ltb _ _ (h .0)))
 room-for (Question k) before h = simp (lt-ltb _ _ h)
+room-for (Constraint k) before h = rw (h .1, h .2) (simp (lt-ltb _ _ (h .0)))
 
--- the refusal where there is no room for a row, or for a question, by each case
-pub row-room-by : (k : RowKind) (before : Tally) (r : ℕ) → (0 < before .questions → r ≡ rowAfterQuestion) →
-    (before .questions ≤ 0 → before .rows < rowLimit → r ≡ 0) →
-    (before .questions ≤ 0 → rowLimit ≤ before .rows → r ≡ tooManyRows) → r ≡ noRoom (Row k) before
-unfolding noRoom
-row-room-by k before r after none full =
-    by-order 0 (before .questions)
-    (λ h. rw (lt-ltb _ _ h) (after h))
-    (λ h. rw (le-ltb _ _ h) (by-order (before .rows) rowLimit (λ l. rw (lt-ltb _ _ l) (none h l)) (λ l. rw (le-ltb _ _ l) (full h l))))
-
-pub question-room-by : (k : QuestionKind) (before : Tally) (r : ℕ) → (before .questions < questionLimit → r ≡ 0) →
-    (questionLimit ≤ before .questions → r ≡ tooManyQuestions) → r ≡ noRoom (Question k) before
-unfolding noRoom
-question-room-by k before r none full =
-    by-order (before .questions) questionLimit (λ h. rw (lt-ltb _ _ h) (none h)) (λ h. rw (le-ltb _ _ h) (full h))
-
--- what a table with so many rows and questions must allow of an entry
+-- what a table with so many entries must allow of one more
 pub record Allowed (before : Tally) (e : Entry) : Type 0 where
   pub room : noRoom (e .kind) before ≡ 0
   pub names : named e before ≡ true
@@ -123,21 +125,23 @@ allowed-if e f before q =
     let names = misnaming-answered e f (offending e before) (room .1) in
     (names .0, record { room = room .0; names = all-named e before (names .1) })
 
--- what holds of 5, 6 and 7 holds of the refusal where there is no room, and what holds of 3 and 4 of that of a number
-room-is : (P : ℕ → Type 0) → P rowAfterQuestion → P tooManyRows → P tooManyQuestions → (kind : Kind) (before : Tally) →
+-- what holds of 5, 6, 7 and 14 holds of the refusal where there is no room, and what holds of 3 and 4 of that of a number
+room-by-is : (P : ℕ → Type 0) (late : Bool) (count limit full : ℕ) → P outOfOrder → P full → (roomBy late count limit full ≡ 0 → ⊥) →
+    P (roomBy late count limit full)
+room-by-is P true count limit full five own h = five
+room-by-is P false count limit full five own h = go (ltb count limit) h
+  where
+    go : (p : Bool) → (_≡_ {A = ℕ} (cond p 0 full) 0 → ⊥) → P (cond p 0 full)
+    go true h = absurd (h refl)
+    go false h = own
+
+room-is : (P : ℕ → Type 0) → P outOfOrder → P tooManyRows → P tooManyQuestions → P tooManyConstraints → (kind : Kind) (before : Tally) →
     (noRoom kind before ≡ 0 → ⊥) → P (noRoom kind before)
 unfolding noRoom
-room-is P five six seven (Row k) before h = go (ltb 0 (before .questions)) (ltb (before .rows) rowLimit) h
-  where
-    go : (p q : Bool) → (_≡_ {A = ℕ} (cond p rowAfterQuestion (cond q 0 tooManyRows)) 0 → ⊥) → P (cond p rowAfterQuestion (cond q 0 tooManyRows))
-    go true q h = five
-    go false true h = absurd (h refl)
-    go false false h = six
-room-is P five six seven (Question k) before h = go (ltb (before .questions) questionLimit) h
-  where
-    go : (p : Bool) → (_≡_ {A = ℕ} (cond p 0 tooManyQuestions) 0 → ⊥) → P (cond p 0 tooManyQuestions)
-    go true h = absurd (h refl)
-    go false h = seven
+room-is P five six seven fourteen (Row k) before = room-by-is P (ltb 0 (before .questions)) (before .rows) rowLimit tooManyRows five six
+room-is P five six seven fourteen (Question k) before = room-by-is P false (before .questions) questionLimit tooManyQuestions five seven
+room-is P five six seven fourteen (Constraint k) before =
+    room-by-is P (ltb 0 (before .rows) || ltb 0 (before .questions)) (before .constraints) constraintLimit tooManyConstraints five fourteen
 
 pub misnamed-is : (P : ℕ → Type 0) → P predicateTooHigh → P notToBeNamed → (names : Names) → P (misnamed names)
 misnamed-is P three four Nothing = four
@@ -156,7 +160,7 @@ numbers-apart n h =
 pub no-room-or : (kind : Kind) (before : Tally) (x : Said Entry) (why : Refusal) → unless (noRoom kind before) x ≡ refusing why →
     ((isAmong atKindByte (why .number) ≡ true) × (why .place ≡ 0)) ⊎ (x ≡ refusing why)
 no-room-or kind before x why q =
-    ⊎-elim (λ h. inl (rw (← h .1) (room-is (λ n. isAmong atKindByte n ≡ true) refl refl refl kind before (h .0), refl))) inr
+    ⊎-elim (λ h. inl (rw (← h .1) (room-is (λ n. isAmong atKindByte n ≡ true) refl refl refl refl kind before (h .0), refl))) inr
     (unless-refusing (noRoom kind before) x why q)
 
 -- a number that fits where it stands, and one that does not
@@ -170,12 +174,12 @@ unfit-there numbers below i x h = go (ltb i numbers) refl h
     go true l h = (ltb-true i numbers l, ltb-false x below h)
     go false l h = never h
 
--- an entry that is whole is refused with 3 to 7 alone
+-- an entry that is whole is refused with 3 to 7 and 14 alone
 pub permitted-own : (e : Entry) (before : Tally) (why : Refusal) → permitted e before ≡ refusing why → isAmong ofEntries (why .number) ≡ true
 unfolding permitted
 permitted-own e before why q =
     ⊎-elim
-    (λ h. rw (← h .1) (room-is (λ n. isAmong ofEntries n ≡ true) refl refl refl (e .kind) before (h .0)))
+    (λ h. rw (← h .1) (room-is (λ n. isAmong ofEntries n ≡ true) refl refl refl refl (e .kind) before (h .0)))
     (λ h. rw (← misnaming-refusing e (offending e before) why h .1) (misnamed-is (λ n. isAmong ofEntries n ≡ true) refl refl (namesOf e)))
     (unless-refusing (noRoom (e .kind) before) (misnaming e (offending e before)) why q)
 

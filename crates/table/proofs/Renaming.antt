@@ -1,9 +1,9 @@
--- An entry with the rows that it names under new numbers: its size, its predicate, and that it keeps the rules where the new numbers do.
+-- An entry with the rows that it names under new numbers: its size, its predicates, and that it keeps the rules where the new numbers do.
 -- Each law goes by what the numbers name, at the first place and at the second.
 -- Assumes nothing.
-use mathlib.Core.Path.{_≡_, refl, sym, ap₂, _∙_}
+use mathlib.Core.Path.{_≡_, refl, sym, ap, ap₂, _∙_}
 use mathlib.Core.Bool.{Bool, true, false, cond, _&&_}
-use Prim.Native.Nat.{ℕ, _<_}
+use Prim.Native.Nat.{ℕ, _<_, max}
 use lib.Dec.{ltb}
 use borrow.Author.Tests.{ltb-true, lt-ltb}
 use Rattle.belnap.proofs.Finite.{never, both-parts}
@@ -15,17 +15,23 @@ use Rattle.table.specs.declared.steps.Tally.{Tally}
 use Rattle.entries.specs.Entries.{numbersOf, namesOf, sizeOf, usedBy, uses}
 use Rattle.table.specs.Steps.{limit, namedAt, fits}
 use Rattle.entries.specs.Renaming.{rowNumbers, namesRow, renamed}
-use Rattle.entries.proofs.OneEntry.{size}
+use Rattle.entries.proofs.OneEntry.{few, size, used-by-both}
 use Rattle.table.proofs.Permission.{fits-below}
 use Rattle.table.proofs.Writing.{Sound}
 
 module _ (new : ℕ → ℕ) where
-  -- the size and the predicate stay
+  -- the size and the predicates stay
   pub renamed-size : (e : Entry) → sizeOf (renamed new e) ≡ sizeOf e
   renamed-size e = size (renamed new e) ∙ sym (size e)
 
   pub renamed-uses : (e : Entry) → uses (renamed new e) ≡ uses e
-  renamed-uses e = go (namesOf e) (ltb 0 (numbersOf e)) (e .a)
+  renamed-uses e =
+      let names = namesOf e in
+      let n = numbersOf e in
+      let both = renamed new e in
+      sym (used-by-both names n (both .a) (both .b) (few (e .kind)))
+      ∙ ap₂ max (ap (λ (u : ℕ). cond (ltb 0 n) u 0) (go names (ltb 0 n) (e .a))) (ap (λ (u : ℕ). cond (ltb 1 n) u 0) (go names (ltb 1 n) (e .b)))
+      ∙ used-by-both names n (e .a) (e .b) (few (e .kind))
     where
       go : (names : Names) (there : Bool) (x : ℕ) → usedBy names (cond (rowNumbers names && there) (new x) x) ≡ usedBy names x
       go Nothing there x = refl

@@ -10,15 +10,16 @@ use lib.Seq.{drop-cons, drop-drop}
 use Rattle.entries.specs.declared.refusals.Refusal.{Refusal}
 use Rattle.kinds.specs.declared.RowKind.{RowKind}
 use Rattle.kinds.specs.declared.QuestionKind.{QuestionKind}
+use Rattle.kinds.specs.declared.ConstraintKind.{ConstraintKind}
 use Rattle.kinds.specs.declared.Kind.{Kind}
-use Rattle.kinds.specs.declared.Kind.the-variants.{Row, Question}
+use Rattle.kinds.specs.declared.Kind.the-variants.{Row, Question, Constraint}
 use Rattle.entries.specs.declared.Entry.{Entry}
 use Rattle.table.specs.declared.steps.Tally.{Tally}
 use Rattle.table.specs.declared.Table.{Table}
 use Rattle.entries.specs.Said.{Said, answered, refusing, refusal}
 use Rattle.entries.specs.Entries.{blank, uses, sizeOf}
-use Rattle.table.specs.Steps.{rowLimit, questionLimit, oneMore, noRoom, stepOf}
-use Rattle.table.specs.Contents.{Contents, none, tallyOf, withKind, withEntry, highest}
+use Rattle.table.specs.Steps.{rowLimit, questionLimit, constraintLimit, oneMore, noRoom, stepOf}
+use Rattle.table.specs.Contents.{Contents, none, tallyOf, withKind, withEntry, highest, predicates}
 use Rattle.table.specs.Reading.{after, readOn, reading, tableOf}
 use Rattle.table.proofs.Padding.{padded-more}
 use Rattle.entries.proofs.OneEntry.{size}
@@ -50,6 +51,13 @@ highest-more : (es : List Entry) (e : Entry) → highest (es ++ (e ∷ [])) ≡ 
 unfolding highest
 highest-more [] e = omega arith
 highest-more (x ∷ es) e = let h = highest-more es e in omega (arith, h)
+
+-- n with a row more, and with a constraint more
+row-counted : (c : Contents) (e : Entry) → max (predicates c) (uses e) ≡ max (highest (c .constraints)) (highest (c .rows ++ (e ∷ [])))
+row-counted c e = omega (arith, highest-more (c .rows) e)
+
+constraint-counted : (c : Contents) (e : Entry) → max (predicates c) (uses e) ≡ max (highest (c .constraints ++ (e ∷ []))) (highest (c .rows))
+constraint-counted c e = omega (arith, highest-more (c .constraints) e)
 
 -- what holds at the loop's head: the struct stands for what was read so far, and reading on from there is reading the whole
 pub record At (s : List ℕ) (t : Table) (at : ℕ) : Type 0 where
@@ -112,7 +120,7 @@ module _ (s : List ℕ) (t : Table) (at : ℕ) (h : At s t at) (l : at < length 
         left = enough _ _ (withEntry (h .contents) e) (at + sizeOf e) (drop (at + sizeOf e) s) (omega (arith, n)) (omega (arith, n, size e)) ∙ on;
       }
 
-  -- there is room for it, as a row or as a question
+  -- there is room for it, as a row, as a question or as a constraint
   pub room-here : (e : Entry) → here ≡ answered e → noRoom (e .kind) (t .tally) ≡ 0
   room-here e q = step-took (getD s at 0) (drop (at + 1) s) (t .tally) e q .1 .room
 
@@ -122,31 +130,71 @@ module _ (s : List ℕ) (t : Table) (at : ℕ) (h : At s t at) (l : at < length 
   pub question-room : (e : Entry) (k : QuestionKind) → here ≡ answered e → e .kind ≡ Question k → t .tally .questions < questionLimit
   question-room e k q p = room-of (Question k) (t .tally) (rw p at (room-here e q))
 
+  pub constraint-room : (e : Entry) (k : ConstraintKind) → here ≡ answered e → e .kind ≡ Constraint k → t .tally .constraints < constraintLimit
+  constraint-room e k q p = room-of (Constraint k) (t .tally) (rw p at (room-here e q)) .0
+
   -- the struct with it in its place, and with it counted
+  abbrev Grown : Entry → Table → Tally → Type 0
+  Grown e m u =
+      _≡_ {A = Table}
+      (record { constraints = m .constraints; rows = m .rows; questions = m .questions; tally = u; predicates = m .predicates })
+      (tableOf (withEntry (h .contents) e))
+
   pub row-more : (e : Entry) (k : RowKind) (m : Table) (n : ℕ) (u : Tally) → here ≡ answered e → e .kind ≡ Row k →
       n ≡ max (t .predicates) (uses e) →
-      m ≡ record { rows = set (t .rows) (t .tally .rows) e; questions = t .questions; tally = t .tally; predicates = n } →
-      u ≡ oneMore (e .kind) (t .tally) →
-      _≡_ {A = Table} (record { rows = m .rows; questions = m .questions; tally = u; predicates = m .predicates }) (tableOf (withEntry (h .contents) e))
+      m ≡ record { constraints = t .constraints; rows = set (t .rows) (t .tally .rows) e; questions = t .questions; tally = t .tally; predicates = n } →
+      u ≡ oneMore (e .kind) (t .tally) → Grown e m u
   unfolding tableOf
   row-more e k m n u q p r w v =
       let c = h .contents in
       let fits : length (c .rows) < rowLimit = rw tally-is at (row-room e k q p) in
-      let more : withEntry c e ≡ record { rows = c .rows ++ (e ∷ []); questions = c .questions } = ap (λ (k : Kind). withKind k e c) p in
+      let more : withEntry c e ≡ withKind (Row k) e c = ap (λ (k : Kind). withKind k e c) p in
       let count : u ≡ oneMore (Row k) (t .tally) = v ∙ ap (λ (k : Kind). oneMore k (t .tally)) p in
-      rw (w, count, more, r, h .stands, padded-more blank rowLimit (c .rows) e fits, highest-more (c .rows) e, length-append (c .rows) (e ∷ []))
+      rw (w, count, more, r, h .stands, padded-more blank rowLimit (c .rows) e fits, row-counted c e, length-append (c .rows) (e ∷ []))
 
   pub question-more : (e : Entry) (k : QuestionKind) (m : Table) (u : Tally) → here ≡ answered e → e .kind ≡ Question k →
-      m ≡ record { rows = t .rows; questions = set (t .questions) (t .tally .questions) e; tally = t .tally; predicates = t .predicates } → u ≡ oneMore
-      (e .kind) (t .tally) →
-      _≡_ {A = Table} (record { rows = m .rows; questions = m .questions; tally = u; predicates = m .predicates }) (tableOf (withEntry (h .contents) e))
+      m ≡ record {
+        constraints = t .constraints;
+        rows = t .rows;
+        questions = set (t .questions) (t .tally .questions) e;
+        tally = t .tally;
+        predicates = t .predicates;
+      } →
+      u ≡ oneMore (e .kind) (t .tally) → Grown e m u
   unfolding tableOf
   question-more e k m u q p w v =
       let c = h .contents in
       let fits : length (c .questions) < questionLimit = rw tally-is at (question-room e k q p) in
-      let more : withEntry c e ≡ record { rows = c .rows; questions = c .questions ++ (e ∷ []) } = ap (λ (k : Kind). withKind k e c) p in
+      let more : withEntry c e ≡ withKind (Question k) e c = ap (λ (k : Kind). withKind k e c) p in
       let count : u ≡ oneMore (Question k) (t .tally) = v ∙ ap (λ (k : Kind). oneMore k (t .tally)) p in
       rw (w, count, more, h .stands, padded-more blank questionLimit (c .questions) e fits, length-append (c .questions) (e ∷ []))
+
+  pub constraint-more : (e : Entry) (k : ConstraintKind) (m : Table) (n : ℕ) (u : Tally) → here ≡ answered e → e .kind ≡ Constraint k →
+      n ≡ max (t .predicates) (uses e) →
+      m ≡ record {
+        constraints = set (t .constraints) (t .tally .constraints) e;
+        rows = t .rows;
+        questions = t .questions;
+        tally = t .tally;
+        predicates = n;
+      } →
+      u ≡ oneMore (e .kind) (t .tally) → Grown e m u
+  unfolding tableOf
+  constraint-more e k m n u q p r w v =
+      let c = h .contents in
+      let fits : length (c .constraints) < constraintLimit = rw tally-is at (constraint-room e k q p) in
+      let more : withEntry c e ≡ withKind (Constraint k) e c = ap (λ (k : Kind). withKind k e c) p in
+      let count : u ≡ oneMore (Constraint k) (t .tally) = v ∙ ap (λ (k : Kind). oneMore k (t .tally)) p in
+      rw (
+        w,
+        count,
+        more,
+        r,
+        h .stands,
+        padded-more blank constraintLimit (c .constraints) e fits,
+        constraint-counted c e,
+        length-append (c .constraints) (e ∷ []),
+      )
 
 -- the end of the bytes
 pub read-none : (f : ℕ) (c : Contents) (at : ℕ) → readOn f c at [] ≡ answered c

@@ -10,17 +10,17 @@ use lib.Seq.{drop-at}
 use lib.Dec.{ltb}
 use Rattle.entries.specs.declared.refusals.Refusal.{Refusal}
 use Rattle.kinds.specs.declared.Kind.{Kind}
-use Rattle.kinds.specs.declared.Kind.the-variants.{Row, Question}
+use Rattle.kinds.specs.declared.Kind.the-variants.{Row, Question, Constraint}
 use Rattle.entries.specs.declared.Entry.{Entry}
 use Rattle.table.specs.declared.steps.Tally.{Tally}
 use Rattle.entries.specs.Said.{Said, answered, refusing, refusal}
-use Rattle.kinds.specs.Kinds.{formOf, isRow, isQuestion, asRow, asQuestion}
+use Rattle.kinds.specs.Kinds.{formOf, isRow, isQuestion, isConstraint, asRow, asQuestion, asConstraint}
 use Rattle.entries.specs.Entries.{numbersOf, sizeOf, bytesOf}
-use Rattle.table.specs.Steps.{tally, rowLimit, questionLimit, numberAt, decoded, permitted, judged, stepOf}
+use Rattle.table.specs.Steps.{tally, rowLimit, questionLimit, constraintLimit, numberAt, noRoom, decoded, permitted, judged, stepOf}
 use Rattle.table.specs.Contents.{Contents, none, tallyOf, withKind, withEntry, entries, written, encoded}
 use Rattle.table.specs.Reading.{after, readOn, reading}
-pub use Rattle.table.specs.Whole.{Tidy, Sound, Each, Whole, RowAt, QuestionAt}
-use Rattle.kinds.proofs.KindTable.{kind-of-byte, is-row, is-question}
+pub use Rattle.table.specs.Whole.{Tidy, Sound, Each, Whole, ConstraintAt, RowAt, QuestionAt}
+use Rattle.kinds.proofs.KindTable.{kind-of-byte, is-row, is-question, is-constraint}
 use Rattle.entries.proofs.OneEntry.{few, length-front, size}
 use Rattle.table.proofs.Permission.{room-of, room-for, Allowed, permitted-if}
 use Rattle.table.proofs.Decoding.{body-whole, Decodes, step-took}
@@ -118,34 +118,59 @@ module _ (c : Contents) (w : Whole c) (e : Entry) (t : Tidy e) (a : Allowed (tal
   sound : (part : Kind → Bool) (before : Tally) → part (e .kind) ≡ true → tallyOf c ≡ before → Sound part before e
   sound part before p q = record { in-part = p; names = rw q at (a .names); tidy = t }
 
+  -- the count of entries before it, by that of its own part
+  from-zero : (f : ℕ → Tally) (n : ℕ) → f n ≡ f (0 + n)
+  from-zero f n = let zero : n ≡ 0 + n = omega arith in ap f zero
+
   pub with-whole : (kind : Kind) → e .kind ≡ kind → Whole (withKind kind e c)
   with-whole (Row r) p =
       let room = room-of (Row r) (tallyOf c) (rw p at (a .room)) in
-      let before : tallyOf c ≡ tally (0 + length (c .rows)) 0 =
-      let zero : length (c .rows) ≡ 0 + length (c .rows) = omega arith in ap₂ tally zero (room .1) in
+      let so-far = tally (length (c .constraints)) in
+      let before : tallyOf c ≡ so-far (0 + length (c .rows)) 0 = ap (so-far (length (c .rows))) (room .1) ∙ from-zero (λ i. so-far i 0) (length (c .rows)) in
       record {
+        constraints-fit = w .constraints-fit;
         rows-fit = omega (arith, length-append (c .rows) (e ∷ []), room .0);
         questions-fit = w .questions-fit;
-        rows-sound = each-more RowAt 0 (c .rows) e (w .rows-sound) (sound isRow (tally (0 + length (c .rows)) 0) (rw p) before);
+        constraints-sound = w .constraints-sound;
+        rows-sound = each-more (RowAt (length (c .constraints))) 0 (c .rows) e (w .rows-sound)
+            (sound isRow (so-far (0 + length (c .rows)) 0) (rw p) before);
         questions-sound = rw (none-of (c .questions) (room .1)) tt;
       }
   with-whole (Question q) p =
       let room = room-of (Question q) (tallyOf c) (rw p at (a .room)) in
-      let before : tallyOf c ≡ tally (length (c .rows)) (0 + length (c .questions)) =
-      let zero : length (c .questions) ≡ 0 + length (c .questions) = omega arith in ap (tally (length (c .rows))) zero in
+      let so-far = tally (length (c .constraints)) (length (c .rows)) in
       record {
+        constraints-fit = w .constraints-fit;
         rows-fit = w .rows-fit;
         questions-fit = omega (arith, length-append (c .questions) (e ∷ []), room);
+        constraints-sound = w .constraints-sound;
         rows-sound = w .rows-sound;
-        questions-sound = each-more (QuestionAt (length (c .rows))) 0 (c .questions) e (w .questions-sound)
-            (sound isQuestion (tally (length (c .rows)) (0 + length (c .questions))) (rw p) before);
+        questions-sound = each-more (QuestionAt (length (c .constraints)) (length (c .rows))) 0 (c .questions) e (w .questions-sound)
+            (sound isQuestion (so-far (0 + length (c .questions))) (rw p) (from-zero so-far (length (c .questions))));
+      }
+  with-whole (Constraint k) p =
+      let room = room-of (Constraint k) (tallyOf c) (rw p at (a .room)) in
+      let n = length (c .constraints) in
+      let before : tallyOf c ≡ tally (0 + n) 0 0 = ap₂ (tally n) (room .1) (room .2) ∙ from-zero (λ i. tally i 0 0) n in
+      record {
+        constraints-fit = omega (arith, length-append (c .constraints) (e ∷ []), room .0);
+        rows-fit = w .rows-fit;
+        questions-fit = w .questions-fit;
+        constraints-sound = each-more ConstraintAt 0 (c .constraints) e (w .constraints-sound) (sound isConstraint (tally (0 + n) 0 0) (rw p) before);
+        rows-sound = rw (none-of (c .rows) (room .1)) tt;
+        questions-sound = rw (none-of (c .questions) (room .2)) tt;
       }
 
   pub with-entries : (kind : Kind) → e .kind ≡ kind → entries (withKind kind e c) ≡ entries c ++ (e ∷ [])
   with-entries (Row r) p =
       let empty = none-of (c .questions) (room-of (Row r) (tallyOf c) (rw p at (a .room)) .1) in
-      rw (empty, append-nil (c .rows ++ (e ∷ [])), append-nil (c .rows))
-  with-entries (Question q) p = sym (append-assoc (c .rows) (c .questions) (e ∷ []))
+      rw (empty, append-nil (c .rows ++ (e ∷ [])), append-nil (c .rows)) (sym (append-assoc (c .constraints) (c .rows) (e ∷ [])))
+  with-entries (Question q) p =
+      ap (λ (es : List Entry). c .constraints ++ es) (sym (append-assoc (c .rows) (c .questions) (e ∷ [])))
+      ∙ sym (append-assoc (c .constraints) (c .rows ++ c .questions) (e ∷ []))
+  with-entries (Constraint k) p =
+      let room = room-of (Constraint k) (tallyOf c) (rw p at (a .room)) in
+      rw (none-of (c .rows) (room .1), none-of (c .questions) (room .2), append-nil (c .constraints ++ (e ∷ [])), append-nil (c .constraints))
 
   with-place : (at : ℕ) → at ≡ length (encoded c) → at + sizeOf e ≡ length (encoded (withEntry c e))
   with-place at p = rw (with-entries (e .kind) refl, written-more (entries c) e, length-append (encoded c) (bytesOf e)) (omega arith)
@@ -197,7 +222,14 @@ came (suc f) c at (k ∷ s) h p w =
 
 -- the empty table is whole
 pub none-whole : Whole none
-none-whole = record { rows-fit = omega arith; questions-fit = omega arith; rows-sound = tt; questions-sound = tt }
+none-whole = record {
+  constraints-fit = omega arith;
+  rows-fit = omega arith;
+  questions-fit = omega arith;
+  constraints-sound = tt;
+  rows-sound = tt;
+  questions-sound = tt;
+}
 
 read-came : (s : List ℕ) → Came none s (reading s)
 unfolding reading written
@@ -211,20 +243,6 @@ of-accepted s c q = rw q at (read-came s)
 pub of-refused : (s : List ℕ) (why : Refusal) → reading s ≡ refusing why → Stopped none s why
 of-refused s why q = rw q at (read-came s)
 
--- a table with rows more, and with questions more
-abbrev moreRows : Contents → List Entry → Contents
-moreRows c es = record { rows = c .rows ++ es; questions = c .questions }
-
-abbrev moreQuestions : Contents → List Entry → Contents
-moreQuestions c es = record { rows = c .rows; questions = c .questions ++ es }
-
--- entries that a table takes one after the other, all into one part
-abbrev Runs : (Contents → List Entry → Contents) → Contents → List Entry → Type 0
-Runs more c [] = more c [] ≡ c
-Runs more c (e ∷ es) =
-    (withEntry c e ≡ more c (e ∷ [])) × Allowed (tallyOf c) e × Tidy e × (more (more c (e ∷ [])) es ≡ more c (e ∷ es))
-    × Runs more (more c (e ∷ [])) es
-
 -- reading an entry's own bytes
 own-read : (c : Contents) (e : Entry) (s : List ℕ) (f at : ℕ) → Allowed (tallyOf c) e → Tidy e → length (bytesOf e ++ s) ≤ f →
     readOn f c at (bytesOf e ++ s) ≡ readOn (length s) (withEntry c e) (at + sizeOf e) s
@@ -235,73 +253,86 @@ own-read c e s (suc f) at h t l =
     rw (own-step e s (tallyOf c) h t, drop-at body s (length body) refl)
     (enough f (length s) (withEntry c e) (at + suc (length body)) s (omega (arith, length-append body s)) (omega arith))
 
-run : (more : Contents → List Entry → Contents) (es : List Entry) (c : Contents) (s : List ℕ) (f at : ℕ) → Runs more c es →
-    length (written es ++ s) ≤ f → readOn f c at (written es ++ s) ≡ readOn (length s) (more c es) (at + length (written es)) s
-unfolding written
-run more [] c s f at h l =
-    let z : at + 0 ≡ at = omega arith in
-    rw (h, z) (enough f (length s) c at s l (omega arith))
-run more (e ∷ es) c s f at h l =
-    let q : length (bytesOf e ++ (written es ++ s)) ≤ f = rw append-assoc at l in
-    let p : at + sizeOf e + length (written es) ≡ at + length (bytesOf e ++ written es) = omega (arith, length-append (bytesOf e) (written es)) in
-    let next = run more es (more c (e ∷ [])) s (length (written es ++ s)) (at + sizeOf e) (h .4) (omega arith) in
-    rw (append-assoc (bytesOf e) (written es) s, own-read c e (written es ++ s) f at (h .1) (h .2) q, h .0) (rw (h .3, p) at next)
+-- a part of a table: the table that has these entries there and so many entries before, which takes one more of the part's kind while there is room
+module _ (holding : List Entry → Contents) (part : Kind → Bool) (limit : ℕ) (before : ℕ → Tally)
+    (counted : (es : List Entry) → tallyOf (holding es) ≡ before (length es))
+    (takes : (es : List Entry) (e : Entry) → part (e .kind) ≡ true → withEntry (holding es) e ≡ holding (es ++ (e ∷ [])))
+    (room : (n : ℕ) (kind : Kind) → part kind ≡ true → n < limit → noRoom kind (before n) ≡ 0) where
+  -- reading the bytes of entries of that part comes to the table that has them too
+  part-read : (es pre : List Entry) (s : List ℕ) (f at : ℕ) → Each (λ i. Sound part (before i)) (length pre) es → length pre + length es ≤ limit →
+      length (written es ++ s) ≤ f → readOn f (holding pre) at (written es ++ s) ≡ readOn (length s) (holding (pre ++ es)) (at + length (written es)) s
+  unfolding written
+  part-read [] pre s f at h fits l =
+      let z : at + 0 ≡ at = omega arith in
+      rw (append-nil pre, z) (enough f (length s) (holding pre) at s l (omega arith))
+  part-read (e ∷ es) pre s f at h fits l =
+      let allowed : Allowed (tallyOf (holding pre)) e =
+      rw (counted pre) (record { room = room (length pre) (e .kind) (h .0 .in-part) (omega arith); names = h .0 .names }) in
+      let one : length (pre ++ (e ∷ [])) ≡ suc (length pre) = length-append pre (e ∷ []) ∙ omega arith in
+      let q : length (bytesOf e ++ (written es ++ s)) ≤ f = rw append-assoc at l in
+      let p : at + sizeOf e + length (written es) ≡ at + length (bytesOf e ++ written es) = omega (arith, length-append (bytesOf e) (written es)) in
+      let next = part-read es (pre ++ (e ∷ [])) s (length (written es ++ s)) (at + sizeOf e) (rw one (h .1)) (rw one (omega arith)) (omega arith) in
+      rw (append-assoc (bytesOf e) (written es) s, own-read (holding pre) e (written es ++ s) f at allowed (h .0 .tidy) q, takes pre e (h .0 .in-part))
+      (rw (append-assoc pre (e ∷ []) es, p) at next)
 
--- a whole table's rows, then its questions, are taken
-module _ (c : Contents) (e : Entry) where
-  row-taken : isRow (e .kind) ≡ true → withEntry c e ≡ moreRows c (e ∷ [])
-  row-taken h = ap (λ (k : Kind). withKind k e c) (is-row (e .kind) h)
+-- the parts of a table, in their order
+abbrev bounding : List Entry → Contents
+bounding es = record { constraints = es; rows = []; questions = [] }
 
-  question-taken : isQuestion (e .kind) ≡ true → withEntry c e ≡ moreQuestions c (e ∷ [])
-  question-taken h = ap (λ (k : Kind). withKind k e c) (is-question (e .kind) h)
+abbrev ruling : List Entry → List Entry → Contents
+ruling constraints es = record { constraints = constraints; rows = es; questions = [] }
 
-rows-run : (es pre : List Entry) → Each RowAt (length pre) es → length pre + length es ≤ rowLimit →
-    Runs moreRows (record { rows = pre; questions = [] }) es
-rows-run [] pre h l = rw (append-nil pre)
-rows-run (e ∷ es) pre h l =
-    let q : length (pre ++ (e ∷ [])) ≡ suc (length pre) = length-append pre (e ∷ []) ∙ omega arith in
-    let sound = h .0 in (
-      row-taken (record { rows = pre; questions = [] }) e (sound .in-part),
-      record {
-        room = rw (is-row (e .kind) (sound .in-part)) (room-for (Row (asRow (e .kind))) (tally (length pre) 0) (omega arith, refl));
-        names =
-            sound .names;
-      },
-      sound .tidy,
-      rw (append-assoc pre (e ∷ []) es),
-      rows-run es (pre ++ (e ∷ [])) (rw q (h .1)) (rw q (omega arith)),
-    )
+abbrev asking : List Entry → List Entry → List Entry → Contents
+asking constraints rows es = record { constraints = constraints; rows = rows; questions = es }
 
-questions-run : (es rows pre : List Entry) → Each (QuestionAt (length rows)) (length pre) es → length pre + length es ≤ questionLimit →
-    Runs moreQuestions (record { rows = rows; questions = pre }) es
-questions-run [] rows pre h l = rw (append-nil pre)
-questions-run (e ∷ es) rows pre h l =
-    let q : length (pre ++ (e ∷ [])) ≡ suc (length pre) = length-append pre (e ∷ []) ∙ omega arith in
-    let sound = h .0 in (
-      question-taken (record { rows = rows; questions = pre }) e (sound .in-part),
-      record {
-        room = rw (is-question (e .kind) (sound .in-part)) (room-for (Question (asQuestion (e .kind))) (tally (length rows) (length pre)) (omega arith));
-        names = sound .names;
-      },
-      sound .tidy,
-      rw (append-assoc pre (e ∷ []) es),
-      questions-run es rows (pre ++ (e ∷ [])) (rw q (h .1)) (rw q (omega arith)),
-    )
+constraints-read : (es : List Entry) (s : List ℕ) → Each ConstraintAt 0 es → length es ≤ constraintLimit →
+    readOn (length (written es ++ s)) none 0 (written es ++ s) ≡ readOn (length s) (bounding es) (0 + length (written es)) s
+constraints-read es s h fits =
+    part-read bounding isConstraint constraintLimit (λ i. tally i 0 0) (λ es. refl)
+    (λ es e k. ap (λ (k : Kind). withKind k e (bounding es)) (is-constraint (e .kind) k))
+    (λ n kind k l. rw (is-constraint kind k) (room-for (Constraint (asConstraint kind)) (tally n 0 0) (l, refl, refl)))
+    es [] s (length (written es ++ s)) 0 h (omega arith) (omega arith)
+
+rows-read : (constraints es : List Entry) (s : List ℕ) (at : ℕ) → Each (RowAt (length constraints)) 0 es → length es ≤ rowLimit →
+    readOn (length (written es ++ s)) (bounding constraints) at (written es ++ s)
+    ≡ readOn (length s) (ruling constraints es) (at + length (written es)) s
+rows-read constraints es s at h fits =
+    let so-far = tally (length constraints) in
+    part-read (ruling constraints) isRow rowLimit (λ i. so-far i 0) (λ es. refl)
+    (λ es e k. ap (λ (k : Kind). withKind k e (ruling constraints es)) (is-row (e .kind) k))
+    (λ n kind k l. rw (is-row kind k) (room-for (Row (asRow kind)) (so-far n 0) (l, refl)))
+    es [] s (length (written es ++ s)) at h (omega arith) (omega arith)
+
+questions-read : (constraints rows es : List Entry) (s : List ℕ) (at : ℕ) → Each (QuestionAt (length constraints) (length rows)) 0 es →
+    length es ≤ questionLimit →
+    readOn (length (written es ++ s)) (ruling constraints rows) at (written es ++ s)
+    ≡ readOn (length s) (asking constraints rows es) (at + length (written es)) s
+questions-read constraints rows es s at h fits =
+    let so-far = tally (length constraints) (length rows) in
+    part-read (asking constraints rows) isQuestion questionLimit so-far (λ es. refl)
+    (λ es e k. ap (λ (k : Kind). withKind k e (asking constraints rows es)) (is-question (e .kind) k))
+    (λ n kind k l. rw (is-question kind k) (room-for (Question (asQuestion kind)) (so-far n) l))
+    es [] s (length (written es ++ s)) at h (omega arith) (omega arith)
 
 -- reading a whole table's bytes comes to that table, whatever stands behind them
 pub read-past : (c : Contents) (s : List ℕ) → Whole c → reading (encoded c ++ s) ≡ readOn (length s) c (length (encoded c)) s
 unfolding reading
 read-past c s w =
+    let constraints = written (c .constraints) in
     let rows = written (c .rows) in
     let questions = written (c .questions) in
-    let p : length rows + length questions ≡ length (rows ++ questions) = sym (length-append rows questions) in
-    let z : 0 + length rows ≡ length rows = omega arith in
-    rw (written-append (c .rows) (c .questions), append-assoc rows questions s)
-    (run moreRows (c .rows) none (questions ++ s) (length (rows ++ (questions ++ s))) 0 (rows-run (c .rows) [] (w .rows-sound) (omega (arith, w .rows-fit)))
-    (omega arith)
-    ∙ run moreQuestions (c .questions) (record { rows = c .rows; questions = [] }) s (length (questions ++ s)) (0 + length rows)
-    (questions-run (c .questions) (c .rows) [] (w .questions-sound) (omega (arith, w .questions-fit))) (omega arith)
-    ∙ rw (z, p))
+    let p : 0 + length constraints + length rows + length questions ≡ length (constraints ++ (rows ++ questions)) =
+    omega (arith, length-append constraints (rows ++ questions), length-append rows questions) in
+    rw (
+      written-append (c .constraints) (c .rows ++ c .questions),
+      written-append (c .rows) (c .questions),
+      append-assoc constraints (rows ++ questions) s,
+      append-assoc rows questions s,
+    )
+    (constraints-read (c .constraints) (rows ++ (questions ++ s)) (w .constraints-sound) (w .constraints-fit)
+    ∙ rows-read (c .constraints) (c .rows) (questions ++ s) (0 + length constraints) (w .rows-sound) (w .rows-fit)
+    ∙ questions-read (c .constraints) (c .rows) (c .questions) s (0 + length constraints + length rows) (w .questions-sound) (w .questions-fit)
+    ∙ rw p)
 
 -- a whole table is accepted
 pub whole-accepted : (c : Contents) → Whole c → reading (encoded c) ≡ answered c

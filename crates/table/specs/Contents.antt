@@ -1,49 +1,54 @@
--- What a table holds: its rows and its questions, how many there are of each, n, and its bytes (01, "The table, byte by byte").
+-- What a table holds: its constraints, rows and questions, how many there are of each, n, and its bytes (01, "The table, byte by byte"; 02, L5).
 use Prim.Native.Nat.{ℕ, _≤_, max}
 use mathlib.Core.List.{List, [], _∷_, _++_}
 use lib.ListN.{length, getD}
 use Rattle.kinds.specs.declared.Kind.{Kind}
-use Rattle.kinds.specs.declared.Kind.the-variants.{Row, Question}
+use Rattle.kinds.specs.declared.Kind.the-variants.{Row, Question, Constraint}
 use Rattle.entries.specs.declared.Entry.{Entry}
 use Rattle.table.specs.declared.steps.Tally.{Tally}
 use Rattle.entries.specs.Entries.{blank, uses, bytesOf}
 use Rattle.table.specs.Steps.{tally}
 
--- "Rows are numbered from 0 in order, questions from 0 separately."
+-- "Rows are numbered from 0 in order, questions from 0 separately." Constraints have no number, and are kept in their order.
 pub record Contents : Type 0 where
+  pub constraints : List Entry
   pub rows : List Entry
   pub questions : List Entry
 
 abbrev pub none : Contents
-none = record { rows = []; questions = [] }
+none = record { constraints = []; rows = []; questions = [] }
 
--- so many rows and questions
+-- how many there are of each
 abbrev pub tallyOf : Contents → Tally
-tallyOf c = tally (length (c .rows)) (length (c .questions))
+tallyOf c = tally (length (c .constraints)) (length (c .rows)) (length (c .questions))
 
 -- with one entry more, by its kind
 abbrev pub withKind : Kind → Entry → Contents → Contents
-withKind (Row k) e c = record { rows = c .rows ++ (e ∷ []); questions = c .questions }
-withKind (Question k) e c = record { rows = c .rows; questions = c .questions ++ (e ∷ []) }
+withKind (Row k) e c = record { constraints = c .constraints; rows = c .rows ++ (e ∷ []); questions = c .questions }
+withKind (Question k) e c = record { constraints = c .constraints; rows = c .rows; questions = c .questions ++ (e ∷ []) }
+withKind (Constraint k) e c = record { constraints = c .constraints ++ (e ∷ []); rows = c .rows; questions = c .questions }
 
 abbrev pub withEntry : Contents → Entry → Contents
 withEntry c e = withKind (e .kind) e c
 
--- "n is one more than the highest predicate that any row uses, and 0 if none does."
+-- "n is one more than the highest predicate that any row uses, and 0 if none does"; "n also counts their predicates" (02, L5)
 unfoldable pub highest : List Entry → ℕ
 highest [] = 0
 highest (e ∷ es) = max (uses e) (highest es)
 
 abbrev pub predicates : Contents → ℕ
-predicates c = highest (c .rows)
+predicates c = max (highest (c .constraints)) (highest (c .rows))
 
--- an n that covers the predicates of rows: each that a row uses is below it
+-- an n that covers the predicates of entries: each that one uses is below it
 abbrev pub Covers : ℕ → List Entry → Type 0
-Covers n rows = (i : ℕ) → uses (getD rows i blank) ≤ n
+Covers n es = (i : ℕ) → uses (getD es i blank) ≤ n
 
--- "A table is a run of entries with no header. … All rows come before all questions."
+-- "A table is a run of entries with no header. … All rows come before all questions"; "two entries before all rows" (02, L5)
+abbrev pub others : Contents → List Entry
+others c = c .rows ++ c .questions
+
 abbrev pub entries : Contents → List Entry
-entries c = c .rows ++ c .questions
+entries c = c .constraints ++ others c
 
 -- the bytes of entries, one after the other
 unfoldable pub written : List Entry → List ℕ

@@ -1,7 +1,7 @@
 -- A table as it is read, entry by entry from the front (01, "The table, byte by byte" and "When we say no").
 use Prim.Native.Nat.{ℕ, zero, suc, _+_, _-_, _≤_}
 use mathlib.Core.List.{List, [], _∷_, _++_}
-use lib.ListN.{length, take, drop, replicate}
+use lib.ListN.{length, getD, drop, replicate}
 use Rattle.entries.specs.declared.Entry.{Entry}
 use Rattle.table.specs.declared.Table.{Table}
 use Rattle.table.specs.declared.Reading.{Reading}
@@ -9,8 +9,8 @@ use Rattle.table.specs.declared.Outcome.{Outcome}
 use Rattle.table.specs.declared.Outcome.the-variants.{Read, Refused}
 use Rattle.entries.specs.Said.{Said, answered, refusing, refusal, whyOf}
 use Rattle.entries.specs.Entries.{blank, sizeOf}
-use Rattle.table.specs.Steps.{rowLimit, questionLimit, stepOf}
-use Rattle.table.specs.Contents.{Contents, none, tallyOf, withEntry, predicates}
+use Rattle.table.specs.Steps.{rowLimit, questionLimit, constraintLimit, stepOf}
+use Rattle.table.specs.Contents.{Contents, none, tallyOf, withEntry, predicates, entries}
 
 -- what was read before an entry, and what is said of it; `rest` reads on behind it
 unfoldable pub after : Said Entry → Contents → ℕ → (ℕ → Contents → Said Contents) → Said Contents
@@ -23,7 +23,7 @@ readOn zero c at s = answered c
 readOn (suc more) c at [] = answered c
 readOn (suc more) c at (k ∷ s) = after (stepOf k s (tallyOf c)) c at (λ size c. readOn more c (at + size) (drop size (k ∷ s)))
 
--- "all of 1 to 7 are looked for entry by entry from the front, so the first bad entry speaks"; n bytes hold at most n entries
+-- "all of 1 to 7 are looked for entry by entry from the front, so the first bad entry speaks", and 14 (02, L5); n bytes hold at most n entries
 unfoldable pub reading : List ℕ → Said Contents
 reading s = readOn (length s) none 0 s
 
@@ -34,22 +34,35 @@ padded z n l = l ++ replicate (n - length l) z
 -- the struct that stands for a table's contents
 unfoldable pub tableOf : Contents → Table
 tableOf c = record {
+  constraints = padded blank constraintLimit (c .constraints);
   rows = padded blank rowLimit (c .rows);
   questions = padded blank questionLimit (c .questions);
   tally = tallyOf c;
   predicates = predicates c;
 }
 
+-- the first n entries of a list; blank ones past its end
+unfoldable pub upTo : List Entry → ℕ → List Entry
+upTo es zero = []
+upTo es (suc n) = upTo es n ++ (getD es n blank ∷ [])
+
 -- the contents that a struct holds
 abbrev pub contentsIn : Table → Contents
-contentsIn t = record { rows = take (t .tally .rows) (t .rows); questions = take (t .tally .questions) (t .questions) }
+contentsIn t = record {
+  constraints = upTo (t .constraints) (t .tally .constraints);
+  rows = upTo (t .rows) (t .tally .rows);
+  questions = upTo (t .questions) (t .tally .questions);
+}
 
--- the counts of a table's struct fit its arrays
+-- a struct counts no more of each than it has room for
 pub record Fits (t : Table) : Type 0 where
+  pub bound-fit : t .tally .constraints ≤ constraintLimit
   pub used-fit : t .tally .rows ≤ rowLimit
-  pub rows-there : rowLimit ≤ length (t .rows)
   pub asked-fit : t .tally .questions ≤ questionLimit
-  pub questions-there : questionLimit ≤ length (t .questions)
+
+-- the entries that a struct holds, in order
+abbrev pub held : Table → List Entry
+held t = entries (contentsIn t)
 
 -- what reading shows: the table, or the refusal beside an empty table
 abbrev pub outcomeOf : Said Contents → Outcome

@@ -1,12 +1,12 @@
--- The limits, what bytes are decoded to, and whether an entry may stand in a table behind so many rows and questions
--- (01, "The table, byte by byte" and "When we say no").
+-- The limits, what bytes are decoded to, and whether an entry may stand in a table behind so many constraints, rows and questions
+-- (01, "The table, byte by byte" and "When we say no"; 02, L5).
 use Prim.Native.Nat.{ℕ, zero, suc, _+_}
-use mathlib.Core.Bool.{Bool, true, false, cond}
+use mathlib.Core.Bool.{Bool, true, false, cond, _||_}
 use mathlib.Core.List.{List}
 use lib.ListN.{length, getD}
 use lib.Dec.{ltb}
 use Rattle.kinds.specs.declared.Kind.{Kind}
-use Rattle.kinds.specs.declared.Kind.the-variants.{Row, Question}
+use Rattle.kinds.specs.declared.Kind.the-variants.{Row, Question, Constraint}
 use Rattle.kinds.specs.declared.Announced.{Announced}
 use Rattle.kinds.specs.declared.Announced.the-variants.{Listed, Unlisted}
 use Rattle.kinds.specs.declared.Names.{Names}
@@ -19,7 +19,7 @@ use Rattle.table.specs.declared.steps.Step.{Step}
 use Rattle.table.specs.declared.steps.Step.the-variants.{Took, Bad}
 use Rattle.table.specs.declared.steps.Entered.{Entered}
 use Rattle.table.specs.declared.steps.Entered.the-variants.{In, Out}
-use Rattle.entries.specs.Refusals.{unlisted, cutShort, predicateTooHigh, notToBeNamed, rowAfterQuestion, tooManyRows, tooManyQuestions}
+use Rattle.entries.specs.Refusals.{unlisted, cutShort, predicateTooHigh, notToBeNamed, outOfOrder, tooManyRows, tooManyQuestions, tooManyConstraints}
 use Rattle.entries.specs.Said.{Said, answered, refusing, refusal, unless}
 use Rattle.kinds.specs.Kinds.{kindOf, formOf}
 use Rattle.entries.specs.Entries.{numbersOf, namesOf, bodySize}
@@ -33,6 +33,10 @@ rowLimit = 256
 
 abbrev pub questionLimit : ℕ
 questionLimit = 64
+
+-- "At most 32" (02, L5)
+abbrev pub constraintLimit : ℕ
+constraintLimit = 32
 
 -- number i of a body of so many numbers; 0 where there is none
 abbrev pub numberAt : ℕ → ℕ → List ℕ → ℕ
@@ -58,18 +62,24 @@ decodedBy (Listed kind) body = bodyOf kind body
 unfoldable pub decoded : ℕ → List ℕ → Decoded
 decoded k body = decodedBy (kindOf k) body
 
--- so many rows and questions, and with an entry of a kind more
-abbrev pub tally : ℕ → ℕ → Tally
-tally rows questions = record { rows = rows; questions = questions }
+-- so many constraints, rows and questions, and with an entry of a kind more
+abbrev pub tally : ℕ → ℕ → ℕ → Tally
+tally constraints rows questions = record { constraints = constraints; rows = rows; questions = questions }
 
 abbrev pub oneMore : Kind → Tally → Tally
-oneMore (Row k) before = tally (before .rows + 1) (before .questions)
-oneMore (Question k) before = tally (before .rows) (before .questions + 1)
+oneMore (Row k) before = tally (before .constraints) (before .rows + 1) (before .questions)
+oneMore (Question k) before = tally (before .constraints) (before .rows) (before .questions + 1)
+oneMore (Constraint k) before = tally (before .constraints + 1) (before .rows) (before .questions)
 
--- 5, 6 and 7; 0 where there is room for an entry of a kind behind so many rows and questions
+-- 5 for an entry that comes too late, then the refusal of one more than there may be; 0 where there is room
+abbrev pub roomBy : Bool → ℕ → ℕ → ℕ → ℕ
+roomBy late count limit full = cond late outOfOrder (cond (ltb count limit) 0 full)
+
+-- 5, 6, 7 and 14; 0 where there is room for an entry of a kind behind so many others: "All rows come before all questions", and constraints "before all rows"
 unfoldable pub noRoom : Kind → Tally → ℕ
-noRoom (Row k) before = cond (ltb 0 (before .questions)) rowAfterQuestion (cond (ltb (before .rows) rowLimit) 0 tooManyRows)
-noRoom (Question k) before = cond (ltb (before .questions) questionLimit) 0 tooManyQuestions
+noRoom (Row k) before = roomBy (ltb 0 (before .questions)) (before .rows) rowLimit tooManyRows
+noRoom (Question k) before = roomBy false (before .questions) questionLimit tooManyQuestions
+noRoom (Constraint k) before = roomBy (ltb 0 (before .rows) || ltb 0 (before .questions)) (before .constraints) constraintLimit tooManyConstraints
 
 -- "A row may name only rows with a lower number; 42 and 43 only lower questions; 40 and 41 any row of the table": at a question all rows are read already,
 -- since 5 keeps rows before questions
@@ -107,11 +117,11 @@ abbrev pub misnaming : Entry → ℕ → Said Entry
 misnaming e zero = answered e
 misnaming e (suc i) = refusing (refusal (misnamed (namesOf e)) (suc i))
 
--- whether an entry may stand there: 5, 6 and 7, then 3 and 4
+-- whether an entry may stand there: 5, 6, 7 and 14, then 3 and 4
 unfoldable pub permitted : Entry → Tally → Said Entry
 permitted e before = unless (noRoom (e .kind) before) (misnaming e (offending e before))
 
--- 1, kind not listed; 2, the body is cut short, behind 5, 6 and 7. A refusal's place is counted from the kind byte.
+-- 1, kind not listed; 2, the body is cut short, behind 5, 6, 7 and 14. A refusal's place is counted from the kind byte.
 unfoldable pub judged : Decoded → Tally → Said Entry
 judged Unknown before = refusing (refusal unlisted 0)
 judged (Cut kind) before = unless (noRoom kind before) (refusing (refusal cutShort 0))
@@ -125,7 +135,7 @@ unfoldable pub shownStep : Said Entry → Step
 shownStep (answered e) = Took e
 shownStep (refusing why) = Bad why
 
--- so many rows and questions with the entry that may stand behind them
+-- the count with the entry that may stand there
 unfoldable pub shownEntered : Tally → Said Entry → Entered
 shownEntered before (answered e) = In (oneMore (e .kind) before)
 shownEntered before (refusing why) = Out why

@@ -1,4 +1,4 @@
--- A table that keeps 01's rules, said of its contents (01, "The table, byte by byte"): each that reading accepts is one, and reading accepts each.
+-- A table that keeps the rules, said of its contents (01, "The table, byte by byte"; 02, L5): each that reading accepts is one, and reading accepts each.
 use Prim.Native.Nat.{ℕ, suc, _≤_}
 use mathlib.Core.Path.{_≡_}
 use mathlib.Core.Bool.{Bool, true, _&&_}
@@ -7,9 +7,9 @@ use lib.ListN.{length}
 use Rattle.kinds.specs.declared.Kind.{Kind}
 use Rattle.entries.specs.declared.Entry.{Entry}
 use Rattle.table.specs.declared.steps.Tally.{Tally}
-use Rattle.kinds.specs.Kinds.{isRow, isQuestion}
+use Rattle.kinds.specs.Kinds.{isRow, isQuestion, isConstraint}
 use Rattle.entries.specs.Entries.{numbersOf}
-use Rattle.table.specs.Steps.{tally, rowLimit, questionLimit, numberAt, fits}
+use Rattle.table.specs.Steps.{tally, rowLimit, questionLimit, constraintLimit, numberAt, fits}
 use Rattle.table.specs.Contents.{Contents}
 
 -- a number that an entry's kind has not is 0
@@ -21,18 +21,21 @@ pub record Tidy (e : Entry) : Type 0 where
 abbrev pub named : Entry → Tally → Bool
 named e before = fits e before 0 (e .a) && fits e before 1 (e .b)
 
--- an entry of a part of a table, behind so many rows and questions that it may name
+-- an entry of a part of a table, behind so many others
 pub record Sound (part : Kind → Bool) (before : Tally) (e : Entry) : Type 0 where
   pub in-part : part (e .kind) ≡ true
   pub names : named e before ≡ true
   pub tidy : Tidy e
 
--- row i, and question j behind so many rows
-abbrev pub RowAt : ℕ → Entry → Type 0
-RowAt i e = Sound isRow (tally i 0) e
+-- constraint i; row i behind so many constraints; and question j behind so many constraints and rows
+abbrev pub ConstraintAt : ℕ → Entry → Type 0
+ConstraintAt i e = Sound isConstraint (tally i 0 0) e
 
-abbrev pub QuestionAt : ℕ → ℕ → Entry → Type 0
-QuestionAt rows j e = Sound isQuestion (tally rows j) e
+abbrev pub RowAt : ℕ → ℕ → Entry → Type 0
+RowAt constraints i e = Sound isRow (tally constraints i 0) e
+
+abbrev pub QuestionAt : ℕ → ℕ → ℕ → Entry → Type 0
+QuestionAt constraints rows j e = Sound isQuestion (tally constraints rows j) e
 
 -- each element of a list, with its number
 abbrev pub Each : {A : Type 0} → (ℕ → A → Type 0) → ℕ → List A → Type 0
@@ -41,7 +44,9 @@ Each P i (x ∷ l) = P i x × Each P (suc i) l
 
 -- a table that reading can accept
 pub record Whole (c : Contents) : Type 0 where
+  pub constraints-fit : length (c .constraints) ≤ constraintLimit
   pub rows-fit : length (c .rows) ≤ rowLimit
   pub questions-fit : length (c .questions) ≤ questionLimit
-  pub rows-sound : Each RowAt 0 (c .rows)
-  pub questions-sound : Each (QuestionAt (length (c .rows))) 0 (c .questions)
+  pub constraints-sound : Each ConstraintAt 0 (c .constraints)
+  pub rows-sound : Each (RowAt (length (c .constraints))) 0 (c .rows)
+  pub questions-sound : Each (QuestionAt (length (c .constraints)) (length (c .rows))) 0 (c .questions)

@@ -9,13 +9,13 @@ use entries::refusals::Refusal;
 use kinds::Kind;
 use kinds::RowKind;
 ghost use mathlib.Core.Path.{_≡_};
-ghost use Prim.Native.Nat.{max};
 ghost use Rattle.entries.specs.Said.{refusing};
 ghost use Rattle.table.specs.Contents.{none};
 ghost use Rattle.table.specs.Reading.{reading, tableOf, shown};
 
-// A table just read: its rows and its questions in order, how many there are of each, and 01's n.
+// A table just read: its constraints, rows and questions in order, how many there are of each, and 01's n.
 pub struct Table {
+    pub constraints: [Entry; Table::CONSTRAINTS],
     pub rows: [Entry; Table::ROWS],
     pub questions: [Entry; Table::QUESTIONS],
     pub tally: Tally,
@@ -42,6 +42,8 @@ impl Table {
 
     pub const QUESTIONS: usize = 64;
 
+    pub const CONSTRAINTS: usize = 32;
+
     pub fn empty() -> Self
         ensures { λ r. ⌜ r ≡ tableOf none ⌝ }
     {
@@ -51,21 +53,17 @@ impl Table {
             b: 0,
         };
         Table {
+            constraints: [blank; Table::CONSTRAINTS],
             rows: [blank; Table::ROWS],
             questions: [blank; Table::QUESTIONS],
             tally: Tally {
+                constraints: 0,
                 rows: 0,
                 questions: 0,
             },
             predicates: 0,
         }
     }
-}
-
-fn larger(x: usize, y: usize) -> usize
-    ensures { λ r. ⌜ r ≡ max x y ⌝ }
-{
-    if x < y { y } else { x }
 }
 
 // Beside a refusal the table is empty.
@@ -95,11 +93,16 @@ pub fn read(s: &[u8]) -> Reading
                     Kind::Row(_) => {
                         let used = before.rows;
                         t.rows[used] = e;
-                        t.predicates = larger(t.predicates, entries::uses_of(e));
+                        t.predicates = entries::larger(t.predicates, entries::uses_of(e));
                     }
                     Kind::Question(_) => {
                         let asked = before.questions;
                         t.questions[asked] = e;
+                    }
+                    Kind::Constraint(_) => {
+                        let bound = before.constraints;
+                        t.constraints[bound] = e;
+                        t.predicates = entries::larger(t.predicates, entries::uses_of(e));
                     }
                 }
                 let more = steps::one_more(kind, before);

@@ -10,11 +10,12 @@ ghost use mathlib.Core.Path.{_≡_};
 ghost use Prim.Native.Nat.{_+_, _<_};
 ghost use lib.ListN.{length, getD, drop};
 ghost use Rattle.entries.specs.Said.{refusal};
-ghost use Rattle.table.specs.Steps.{oneMore, noRoom, limit, misnamed, numberAt, numberPlace, namedAt, offending};
+ghost use Rattle.table.specs.Steps.{oneMore, roomBy, noRoom, limit, misnamed, numberAt, numberPlace, namedAt, offending};
 ghost use Rattle.table.specs.Steps.{bodyOf, decoded, permitted, judged, stepOf, shownStep, shownEntered};
 
-// So many rows and questions.
+// So many constraints, rows and questions.
 pub struct Tally {
+    pub constraints: usize,
     pub rows: usize,
     pub questions: usize,
 }
@@ -32,13 +33,13 @@ pub enum Step {
     Bad(Refusal),
 }
 
-// So many rows and questions with an entry more, or why it may not stand behind them.
+// The count with an entry more, or why it may not stand there.
 pub enum Entered {
     In(Tally),
     Out(Refusal),
 }
 
-// So many rows and questions with an entry of a kind more, for which there is room.
+// The count with an entry of a kind more, for which there is room.
 pub(crate) fn one_more(kind: Kind, before: Tally) -> Tally
     requires { ⌜ noRoom kind before ≡ 0 ⌝ }
     ensures { λ r. ⌜ r ≡ oneMore kind before ⌝ }
@@ -51,32 +52,43 @@ pub(crate) fn one_more(kind: Kind, before: Tally) -> Tally
         Kind::Question(_) => {
             more.questions = before.questions + 1;
         }
+        Kind::Constraint(_) => {
+            more.constraints = before.constraints + 1;
+        }
     }
     more
 }
 
-// 5, 6 or 7 where there is no room for an entry of a kind, else 0.
+// 5 for an entry that comes too late, then the refusal of one more than there may be, else 0.
+fn room_by(late: bool, count: usize, limit: usize, full: u8) -> u8
+    ensures { λ r. ⌜ r ≡ roomBy late count limit full ⌝ }
+{
+    if late {
+        return refusals::OUT_OF_ORDER;
+    }
+    if count < limit { 0 } else { full }
+}
+
+// 5, 6, 7 or 14 where there is no room for an entry of a kind, else 0.
 fn no_room(kind: Kind, before: Tally) -> u8
     ensures { λ r. ⌜ r ≡ noRoom kind before ⌝ }
 {
+    let asked = 0 < before.questions;
+    let ruled = 0 < before.rows;
     match kind {
-        Kind::Row(_) => {
-            if 0 < before.questions {
-                return refusals::ROW_AFTER_QUESTION;
-            }
-            if before.rows < Table::ROWS {
-                0
-            } else {
-                refusals::TOO_MANY_ROWS
-            }
-        }
-        Kind::Question(_) => {
-            if before.questions < Table::QUESTIONS {
-                0
-            } else {
-                refusals::TOO_MANY_QUESTIONS
-            }
-        }
+        Kind::Row(_) => room_by(asked, before.rows, Table::ROWS, refusals::TOO_MANY_ROWS),
+        Kind::Question(_) => room_by(
+            false,
+            before.questions,
+            Table::QUESTIONS,
+            refusals::TOO_MANY_QUESTIONS,
+        ),
+        Kind::Constraint(_) => room_by(
+            ruled | asked,
+            before.constraints,
+            Table::CONSTRAINTS,
+            refusals::TOO_MANY_CONSTRAINTS,
+        ),
     }
 }
 
@@ -191,7 +203,7 @@ fn bad(number: u8, place: usize) -> Step
     Step::Bad(Refusal { number, place })
 }
 
-// Whether an entry may stand behind so many rows and questions.
+// Whether an entry may stand behind so many others.
 pub(crate) fn permit(e: Entry, before: Tally) -> Step
     ensures { λ r. ⌜ r ≡ shownStep (permitted e before) ⌝ }
 {
@@ -220,7 +232,7 @@ fn cut_short(kind: Kind, before: Tally) -> Step
     bad(refusals::CUT_SHORT, 0)
 }
 
-// The entry whose kind byte stands at a place, behind so many rows and questions.
+// The entry whose kind byte stands at a place, behind so many others.
 pub(crate) fn step_at(s: &[u8], at: usize, before: Tally) -> Step
     requires { ⌜ at < length (now s) ⌝ }
     ensures { λ r. ⌜ r ≡ shownStep (stepOf (getD (now (s .entry)) at 0) (drop (at + 1) (now (s .entry))) before) ⌝ }
@@ -233,7 +245,7 @@ pub(crate) fn step_at(s: &[u8], at: usize, before: Tally) -> Step
     }
 }
 
-// An entry behind so many rows and questions.
+// An entry behind so many others.
 pub fn enter(e: Entry, before: Tally) -> Entered
     ensures { λ r. ⌜ r ≡ shownEntered before (permitted e before) ⌝ }
 {

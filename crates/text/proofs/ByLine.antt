@@ -25,7 +25,8 @@ use Rattle.table.proofs.Decoding.{took, turned-away}
 use Rattle.text.specs.declared.lines.Line.{Line}
 use Rattle.text.specs.Decimal.{value, tooLarge, wellSpelled}
 use Rattle.text.specs.Lines.{space, lineFeed}
-use Rattle.text.specs.Texts.{Pieces, split, some, every, misspelling, lineBy, lineSays, onLine, lastSays, linesSay, endedBy}
+use Rattle.entries.specs.Lists.{some, every}
+use Rattle.text.specs.Texts.{Pieces, split, misspelling, lineBy, lineSays, onLine, lastSays, linesSay, endedBy}
 use Rattle.text.specs.Inner.{lineFrom, saidFrom}
 use Rattle.text.proofs.Splitting.{behind-some}
 use Rattle.text.proofs.OneLine.{Plain, line-written}

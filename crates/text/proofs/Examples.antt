@@ -6,7 +6,7 @@ use Prim.Native.Nat.{ℕ}
 use Prim.Native.String.{String}
 use Rattle.kinds.specs.Kinds.{kindOf}
 use Rattle.kinds.specs.Words.{bytes, wordOf, kindSpelled}
-use Rattle.entries.specs.Refusals.{predicateTooHigh, notToBeNamed, rowAfterQuestion, unknownWord, misspelt}
+use Rattle.entries.specs.Refusals.{predicateTooHigh, notToBeNamed, outOfOrder, unknownWord, misspelt}
 use Rattle.entries.specs.Said.{answered, refusing, refusal}
 use Rattle.entries.specs.Entries.{bytesOf}
 use Rattle.table.specs.Steps.{bodyOf, decoded, noRoom, offending, permitted, judged, stepOf}
@@ -44,15 +44,17 @@ thirteen = (refl, refl, refl, refl, refl, refl, refl, refl, refl, refl)
 -- then 01's own, by line
 pub own :
     Refuses "deny-if 24\n" predicateTooHigh 1 × Refuses "deny\nnegation 1\n" notToBeNamed 2
-    × Refuses "deny\ntruth-at-or-below 0 0\ngrant\n" rowAfterQuestion 3 × Refuses "negation 0\ndeny-if 01\n" misspelt 2
+    × Refuses "deny\ntruth-at-or-below 0 0\ngrant\n" outOfOrder 3 × Refuses "negation 0\ndeny-if 01\n" misspelt 2
+    × Refuses "deny\nnever-both 0 1\n" outOfOrder 2 × Refuses "only-if 0 24\n" predicateTooHigh 1
 unfolding kindSpelled wordOf value tooLarge wellSpelled split misspelling lineSays onLine linesSay spelled fromText
     lineAt written bytesOf reading readOn after stepOf judged permitted offending noRoom decoded bodyOf kindOf
-own = (refl, refl, refl, refl)
+own = (refl, refl, refl, refl, refl, refl)
 
 -- the empty text is the text of the empty table; and a table of each shape of entry
 pub spells :
     Spells "" [] × Spells "grant-if 0\ndeny\nimplication 0 1\ntruth-at-or-below 2 1\nnot 0\n"
     (0x11 ∷ 0x00 ∷ 0x01 ∷ 0x34 ∷ 0x00 ∷ 0x01 ∷ 0x40 ∷ 0x02 ∷ 0x01 ∷ 0x42 ∷ 0x00 ∷ [])
+    × Spells "never-both 0 1\nonly-if 2 23\ndeny\n" (0x50 ∷ 0x00 ∷ 0x01 ∷ 0x51 ∷ 0x02 ∷ 0x17 ∷ 0x01 ∷ [])
 unfolding kindSpelled wordOf decimal value tooLarge wellSpelled split misspelling lineSays onLine linesSay spelled fromText toText lineOf textOf
     lineAt written bytesOf reading readOn after stepOf judged permitted offending noRoom decoded bodyOf kindOf
-spells = ((refl, refl), (refl, refl))
+spells = ((refl, refl), (refl, refl), (refl, refl))

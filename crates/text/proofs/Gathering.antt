@@ -11,7 +11,7 @@ use borrow.Author.Tests.{ne-eqb}
 use borrow.Rule.Slice.PartMut.{putMid, midOf}
 use Rattle.belnap.proofs.Finite.{never}
 use Rattle.kinds.specs.declared.Kind.{Kind}
-use Rattle.kinds.specs.declared.Kind.the-variants.{Row, Question}
+use Rattle.kinds.specs.declared.Kind.the-variants.{Row, Question, Constraint}
 use Rattle.entries.specs.declared.Entry.{Entry}
 use Rattle.entries.specs.declared.refusals.Refusal.{Refusal}
 use Rattle.entries.specs.Refusals.{ofSpelling, isAmong}
@@ -87,17 +87,18 @@ pub so-as : {text bytes : List ℕ} {count : ℕ} {counts : Tally} {line at : �
     (count' : ℕ) (counts' : Tally) (at' : ℕ) → count' ≡ count → counts' ≡ counts → at' ≡ at → So text bytes count' counts' line at'
 so-as so count' counts' at' p q r = rw (p, q, r) so
 
--- so many rows and questions with an entry more
+-- the count with an entry more
 tally-more : (c : Contents) (e : Entry) → oneMore (e .kind) (tallyOf c) ≡ tallyOf (withEntry c e)
 tally-more c e = go (e .kind)
   where
     go : (kind : Kind) → oneMore kind (tallyOf c) ≡ tallyOf (withKind kind e c)
-    go (Row k) = ap (λ (n : ℕ). tally n (length (c .questions))) (sym (length-append (c .rows) (e ∷ [])))
-    go (Question k) = ap (tally (length (c .rows))) (sym (length-append (c .questions) (e ∷ [])))
+    go (Row k) = ap (λ (n : ℕ). tally (length (c .constraints)) n (length (c .questions))) (sym (length-append (c .rows) (e ∷ [])))
+    go (Question k) = ap (tally (length (c .constraints)) (length (c .rows))) (sym (length-append (c .questions) (e ∷ [])))
+    go (Constraint k) = ap (λ (n : ℕ). tally n (length (c .rows)) (length (c .questions))) (sym (length-append (c .constraints) (e ∷ [])))
 
 -- a whole table is not too long
 pub whole-short : (c : Contents) → Whole c → length (encoded c) ≤ byteLimit
-whole-short c w = limits (encoded c) c (whole-accepted c w) .2
+whole-short c w = limits (encoded c) c (whole-accepted c w) .3
 
 pub at-start : (text bytes : List ℕ) → length bytes ≡ byteLimit → So text bytes 0 (tallyOf none) 1 0
 unfolding written

@@ -28,7 +28,8 @@ use Rattle.table.specs.Whole.{Tidy}
 use Rattle.table.proofs.Writing.{front-of, trim, number-front}
 use Rattle.text.specs.Decimal.{isDigit, decimal, digitsAlone, value, tooLarge, wellSpelled}
 use Rattle.text.specs.Lines.{space, lineFeed, each, lineOf}
-use Rattle.text.specs.Texts.{Pieces, split, some, every, misspelling, lineBy, lineSays}
+use Rattle.entries.specs.Lists.{some, every}
+use Rattle.text.specs.Texts.{Pieces, split, misspelling, lineBy, lineSays}
 use Rattle.text.proofs.Numerals.{digit-of, decimal-alone, value-decimal, decimal-well, decimal-small, decimal-value}
 use Rattle.text.proofs.Splitting.{split-joined, free, above-free, split-each}
 

@@ -12,7 +12,7 @@ use Rattle.belnap.proofs.Finite.{both-parts}
 use Rattle.kinds.specs.declared.Kind.{Kind}
 use Rattle.kinds.specs.declared.Names.{Names}
 use Rattle.kinds.specs.declared.Names.the-variants.{Nothing, Predicates, Rows, Questions}
-use Rattle.kinds.specs.Kinds.{isRow, isQuestion}
+use Rattle.kinds.specs.Kinds.{isRow, isQuestion, isConstraint}
 use Rattle.entries.specs.declared.Entry.{Entry}
 use Rattle.entries.specs.Said.{Said, answered, refusing}
 use Rattle.entries.specs.Entries.{numberLimit, numbersOf, namesOf}
@@ -110,6 +110,9 @@ each-plain part before i (e ∷ es) low h =
 
 pub whole-plain : (c : Contents) → Whole c → Plainly (entries c)
 whole-plain c w =
-    plainly-append (c .rows) (c .questions)
-    (each-plain isRow (λ i. tally i 0) 0 (c .rows) (λ j l. (omega (arith, w .rows-fit), omega arith)) (w .rows-sound))
-    (each-plain isQuestion (λ j. tally (length (c .rows)) j) 0 (c .questions) (λ j l. (w .rows-fit, omega (arith, w .questions-fit))) (w .questions-sound))
+    let n = length (c .constraints) in
+    let constraints = each-plain isConstraint (λ i. tally i 0 0) 0 (c .constraints) (λ j l. (omega arith, omega arith)) (w .constraints-sound) in
+    let rows = each-plain isRow (λ i. tally n i 0) 0 (c .rows) (λ j l. (omega (arith, w .rows-fit), omega arith)) (w .rows-sound) in
+    let questions =
+    each-plain isQuestion (λ j. tally n (length (c .rows)) j) 0 (c .questions) (λ j l. (w .rows-fit, omega (arith, w .questions-fit))) (w .questions-sound) in
+    plainly-append (c .constraints) (c .rows ++ c .questions) constraints (plainly-append (c .rows) (c .questions) rows questions)

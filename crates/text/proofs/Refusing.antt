@@ -21,7 +21,8 @@ use Rattle.table.proofs.Permission.{permitted-own, refused-inside}
 use Rattle.table.proofs.Writing.{none-whole, whole-accepted}
 use Rattle.table.proofs.Speaking.{refused-at, not-zero}
 use Rattle.text.specs.Lines.{lineFeed, each, lineOf, textOf}
-use Rattle.text.specs.Texts.{Pieces, split, every, lineSays, onLine, linesSay, spelled, endedBy}
+use Rattle.entries.specs.Lists.{every}
+use Rattle.text.specs.Texts.{Pieces, split, lineSays, onLine, linesSay, spelled, endedBy}
 use Rattle.text.specs.Calls.{lineAt, byLine, fromText}
 use Rattle.text.specs.Inner.{saidFrom}
 use Rattle.text.specs.Places.{BadLine, BadEntry, DueText}

@@ -1,7 +1,7 @@
 -- A line as the code goes through it: its word, its numbers piece by piece, and its end.
 -- Assumes nothing.
 use mathlib.Core.Path.{_≡_, refl, sym, ap, ap₂, _∙_}
-use mathlib.Core.Bool.{Bool, true, false, cond, _&&_, _||_}
+use mathlib.Core.Bool.{Bool, true, false, cond, _&&_}
 use mathlib.Core.List.{List, [], _∷_, _++_, map, append-assoc, append-nil}
 use Prim.Native.Nat.{ℕ, _+_, _-_, _≤_, _<_}
 use native.Mathlib.Omega.{arith}
@@ -22,7 +22,9 @@ use Rattle.entries.specs.Said.{Said, answered, refusing, refusal, andThen, unle
 use Rattle.kinds.specs.Words.{kindSpelled}
 use Rattle.table.specs.Steps.{numberAt, entryOf, shownStep}
 use Rattle.text.specs.Decimal.{value, tooLarge, wellSpelled}
-use Rattle.text.specs.Texts.{Pieces, split, some, every, misspelling, lineBy, lineSays}
+use Rattle.entries.specs.Lists.{some, every}
+use Rattle.entries.proofs.Lists.{none-append}
+use Rattle.text.specs.Texts.{Pieces, split, misspelling, lineBy, lineSays}
 use Rattle.text.specs.Inner.{numberWith, numberSaid, piecesBehind, lineFrom}
 use Rattle.text.specs.Lines.{space, lineFeed}
 use Rattle.text.proofs.Splitting.{split-front, first-within, behind-some}
@@ -77,15 +79,6 @@ every-more is (q ∷ ps) p = go (is q) (every-more is ps p)
     go true h = h
     go false h = refl
 
-some-append : (is : List ℕ → Bool) (ps qs : List (List ℕ)) → some is ps ≡ false → some is (ps ++ qs) ≡ some is qs
-some-append is [] qs h = refl
-some-append is (p ∷ ps) qs h = go (is p) h (some-append is ps qs)
-  where
-    go : (b : Bool) → (b || some is ps) ≡ false → (some is ps ≡ false → some is (ps ++ qs) ≡ some is qs) → (b || some is (ps ++ qs))
-        ≡ some is qs
-    go true h rest = never h
-    go false h rest = rest h
-
 count-more : (ps : List (List ℕ)) (p : List ℕ) → length ps + 1 ≡ length (ps ++ (p ∷ []))
 count-more [] p = refl
 count-more (q ∷ ps) p = omega (arith, count-more ps p)
@@ -128,9 +121,9 @@ module _ (kind : Kind) where
       go : (large : Bool) → tooLarge p ≡ large →
           (some tooLarge (done ++ (p ∷ [])) ≡ false → seen (done ++ (p ∷ [])) ps ≡ lineBy (Listed kind) ((done ++ (p ∷ [])) ++ ps)) →
           seen done (p ∷ ps) ≡ lineBy (Listed kind) (done ++ (p ∷ ps))
-      go true l on = rw (l, some-append tooLarge done (p ∷ ps) small, l)
+      go true l on = rw (l, none-append tooLarge done (p ∷ ps) small, l)
       go false l on =
-          let none : some tooLarge (done ++ (p ∷ [])) ≡ false = some-append tooLarge done (p ∷ []) small ∙ rw l in
+          let none : some tooLarge (done ++ (p ∷ [])) ≡ false = none-append tooLarge done (p ∷ []) small ∙ rw l in
           rw (l, first-more done p, second-more done p, every-more wellSpelled done p, count-more done p) (on none ∙ ap (lineBy (Listed kind))
           (append-assoc done (p ∷ []) ps))
 

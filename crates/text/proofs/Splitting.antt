@@ -13,7 +13,8 @@ use borrow.Author.Tests.{eqb-true, eq-eqb, ne-eqb, not-true, ltb-true}
 use Rattle.belnap.proofs.Finite.{both-parts, never}
 use Rattle.kinds.proofs.Spelling.{above}
 use Rattle.text.specs.Lines.{each}
-use Rattle.text.specs.Texts.{Pieces, pieces, split, every}
+use Rattle.entries.specs.Lists.{every}
+use Rattle.text.specs.Texts.{Pieces, pieces, split}
 use Rattle.text.specs.Inner.{piecesBehind}
 
 -- at a separator, and at another byte

@@ -9,7 +9,7 @@ use Rattle.entries.specs.declared.Entry.{Entry}
 use Rattle.entries.specs.declared.refusals.Refusal.{Refusal}
 use Rattle.entries.specs.Said.{Said, answered, whyOf}
 use Rattle.entries.specs.Entries.{sizeLimit}
-use Rattle.table.specs.Steps.{rowLimit, questionLimit, shownStep}
+use Rattle.table.specs.Steps.{rowLimit, questionLimit, constraintLimit, shownStep}
 use Rattle.text.specs.declared.decimal.Number.{Number}
 use Rattle.text.specs.declared.lines.Line.{Line}
 use Rattle.text.specs.declared.Gathered.{Gathered}
@@ -52,7 +52,7 @@ ownUnless own bad = cond (eqb (bad .number) 0) own bad
 
 -- no table has more bytes
 abbrev pub byteLimit : ℕ
-byteLimit = sizeLimit * (rowLimit + questionLimit)
+byteLimit = sizeLimit * (constraintLimit + (rowLimit + questionLimit))
 
 -- the count of bytes gathered fits their array
 pub record Holds (g : Gathered) : Type 0 where

@@ -1,6 +1,6 @@
 -- The entries that a text spells, line by line from the front (02, L2).
 use Prim.Native.Nat.{ℕ, suc}
-use mathlib.Core.Bool.{Bool, true, false, cond, _&&_, _||_}
+use mathlib.Core.Bool.{cond, _&&_}
 use mathlib.Core.List.{List, [], _∷_, map}
 use lib.ListN.{length}
 use lib.Dec.{eqb}
@@ -10,6 +10,7 @@ use Rattle.kinds.specs.declared.Announced.the-variants.{Listed, Unlisted}
 use Rattle.kinds.specs.Kinds.{formOf}
 use Rattle.kinds.specs.Words.{kindSpelled}
 use Rattle.entries.specs.declared.Entry.{Entry}
+use Rattle.entries.specs.Lists.{some, every}
 use Rattle.entries.specs.Refusals.{unknownWord, misspelt}
 use Rattle.entries.specs.Said.{Said, answered, refusing, refusal, andThen, unless}
 use Rattle.table.specs.Steps.{entryOf}
@@ -27,15 +28,6 @@ pieces first more = record { first = first; more = more }
 unfoldable pub split : ℕ → List ℕ → Pieces
 split sep [] = pieces [] []
 split sep (x ∷ s) = let rest = split sep s in cond (eqb x sep) (pieces [] (rest .first ∷ rest .more)) (pieces (x ∷ rest .first) (rest .more))
-
--- whether some piece is so, and whether every piece is
-abbrev pub some : (List ℕ → Bool) → List (List ℕ) → Bool
-some is [] = false
-some is (piece ∷ more) = is piece || some is more
-
-abbrev pub every : (List ℕ → Bool) → List (List ℕ) → Bool
-every is [] = true
-every is (piece ∷ more) = is piece && every is more
 
 -- "12, unknown word or a number above 255; 13, any other spelling (leading zero, extra space, a number too many or too few …), after 12 on the same line";
 -- 0 where a kind's numbers are spelled well

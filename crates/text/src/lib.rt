@@ -17,8 +17,7 @@ ghost use Prim.Native.Nat.{_+_, _≤_};
 ghost use lib.ListN.{length, drop, take};
 ghost use Rattle.entries.specs.Said.{refusing, refusal};
 ghost use Rattle.entries.specs.Output.{sent, shownOutput, outputOf};
-ghost use Rattle.table.specs.Contents.{entries};
-ghost use Rattle.table.specs.Reading.{Fits, contentsIn};
+ghost use Rattle.table.specs.Reading.{Fits, held};
 ghost use Rattle.text.specs.Lines.{textOf};
 ghost use Rattle.text.specs.Calls.{toText, fromText};
 ghost use Rattle.text.specs.Inner.{badFrom, ownUnless, Holds, Gathers};
@@ -26,17 +25,20 @@ ghost use Rattle.text.specs.Inner.{badFrom, ownUnless, Holds, Gathers};
 // How many bytes a table's text has.
 fn text_size(t: Table) -> usize
     requires { ⌜ Fits t ⌝ }
-    ensures { λ n. ⌜ n ≡ length (textOf (entries (contentsIn t))) ⌝ }
+    ensures { λ n. ⌜ n ≡ length (textOf (held t)) ⌝ }
 {
-    let used = t.tally.rows;
-    let count = used + t.tally.questions;
+    let bound = t.tally.constraints;
+    let ruled = bound + t.tally.rows;
+    let count = ruled + t.tally.questions;
     let mut size = 0;
     let mut i = 0;
     while i < count {
-        let e = if i < used {
-            t.rows[i]
+        let e = if i < bound {
+            t.constraints[i]
+        } else if i < ruled {
+            t.rows[i - bound]
         } else {
-            t.questions[i - used]
+            t.questions[i - ruled]
         };
         size += lines::line_size(e);
         i += 1;
@@ -46,19 +48,22 @@ fn text_size(t: Table) -> usize
 
 // A table's text, over the front of an output that has room for it.
 fn write(t: Table, out: &mut [u8]) -> usize
-    requires { ⌜ Fits t × (length (textOf (entries (contentsIn t))) ≤ length (now out)) ⌝ }
-    ensures length { λ n. ⌜ n ≡ length (textOf (entries (contentsIn t))) ⌝ }
-    ensures output { λ n. ⌜ now (out .exit) ≡ textOf (entries (contentsIn t)) ++ drop n (now (out .entry)) ⌝ }
+    requires { ⌜ Fits t × (length (textOf (held t)) ≤ length (now out)) ⌝ }
+    ensures length { λ n. ⌜ n ≡ length (textOf (held t)) ⌝ }
+    ensures output { λ n. ⌜ now (out .exit) ≡ textOf (held t) ++ drop n (now (out .entry)) ⌝ }
 {
-    let used = t.tally.rows;
-    let count = used + t.tally.questions;
+    let bound = t.tally.constraints;
+    let ruled = bound + t.tally.rows;
+    let count = ruled + t.tally.questions;
     let mut at = 0;
     let mut i = 0;
     while i < count {
-        let e = if i < used {
-            t.rows[i]
+        let e = if i < bound {
+            t.constraints[i]
+        } else if i < ruled {
+            t.rows[i - bound]
         } else {
-            t.questions[i - used]
+            t.questions[i - ruled]
         };
         at = lines::put_line(out, at, e);
         i += 1;
@@ -85,7 +90,7 @@ pub fn to_text(table: &[u8], out: &mut [u8]) -> Output
 }
 
 // No table has more bytes.
-const BYTES: usize = entries::LONGEST * (Table::ROWS + Table::QUESTIONS);
+const BYTES: usize = entries::LONGEST * (Table::CONSTRAINTS + (Table::ROWS + Table::QUESTIONS));
 
 // The bytes of the table that a text spells, and how many they are; or the refusal, whose number is 0 where there is none.
 pub struct Gathered {
@@ -153,6 +158,7 @@ fn gather(text: &[u8]) -> Gathered
     let mut bytes = [0; BYTES];
     let mut length = 0;
     let mut tally = Tally {
+        constraints: 0,
         rows: 0,
         questions: 0,
     };

@@ -6,6 +6,9 @@ use Rattle.kinds.proofs.as_row.Tie as tie
 returns-2 : tie.Need-returns-2
 returns-2 c = rw (c .enum-told .given .1)
 
+returns-3 : tie.Need-returns-3
+returns-3 c = rw (c .enum-told2 .given .1)
+
 pub as-row-spec : {M : Type 1} → statement M
 as-row-spec =
     tie.close
@@ -13,4 +16,6 @@ as-row-spec =
     (λ c. search needs)
     (λ c. search needs)
     (λ c. search needs)
-    returns-2)
+    (λ c. search needs)
+    returns-2
+    returns-3)

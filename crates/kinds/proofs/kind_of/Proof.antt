@@ -60,9 +60,23 @@ returns-13 c =
     sym (gap 0x44 0x50 (c .before .before .args .byte) refl (omega (arith, c .before .match .keys5, l)) (omega (arith, c .before .match .keys5)))
 
 returns-14 : tie.Need-returns-14
-returns-14 c =
-    sym (gap 0x50 0x100 (c .before .args .byte) refl (omega (
+unfolding kindOf
+returns-14 c = let q : c .before .before .args .byte ≡ 0x50 = omega arith in rw q
+
+returns-15 : tie.Need-returns-15
+unfolding kindOf
+returns-15 c = let q : c .before .before .args .byte ≡ 0x51 = omega arith in rw q
+
+returns-16 : tie.Need-returns-16
+returns-16 c =
+    sym (gap 0x52 0x60 (c .before .before .args .byte) refl
+    (omega (arith, c .before .match .keys6, c .match4 .rest .0 .1, c .match4 .rest .1)) (omega (arith, c .before .match .keys6)))
+
+returns-17 : tie.Need-returns-17
+returns-17 c =
+    sym (gap 0x60 0x100 (c .before .args .byte) refl (omega (
       arith,
+      c .match .rest .0 .0 .0 .0 .0 .1,
       c .match .rest .0 .0 .0 .0 .1,
       c .match .rest .0 .0 .0 .1,
       c .match .rest .0 .0 .1,
@@ -90,4 +104,7 @@ kind-of-spec =
     returns-11
     returns-12
     returns-13
-    returns-14)
+    returns-14
+    returns-15
+    returns-16
+    returns-17)

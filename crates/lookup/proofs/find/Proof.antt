@@ -1,13 +1,13 @@
 -- That `find` (src/lib.rt) keeps its promise.
-use mathlib.Core.Path.{_≡_, ap, _∙_}
+use mathlib.Core.Path.{_≡_, ap, ap₂, _∙_}
 use mathlib.Core.List.{List}
-use Prim.Native.Nat.{ℕ}
+use Prim.Native.Nat.{ℕ, _+_, _*_}
 use native.Mathlib.Omega.{arith}
 use lib.ListN.{length, getD, take}
 use Rattle.entries.specs.declared.Entry.{Entry}
 use Rattle.table.specs.declared.Table.{Table}
 use Rattle.lookup.specs.declared.Place.the-variants.{At}
-use Rattle.entries.specs.Entries.{blank, sizeOf}
+use Rattle.entries.specs.Entries.{blank, sizeLimit, sizeOf}
 use Rattle.table.specs.Steps.{rowLimit}
 use Rattle.table.specs.Contents.{written}
 use Rattle.table.specs.Reading.{tableOf}
@@ -31,6 +31,10 @@ used : (c : tie.After-enum-told) → c .before .before .read .result .table .tal
 unfolding tableOf
 used c = ap (λ (t : Table). t .tally .rows) (open-at c .table)
 
+bound : (c : tie.After-enum-told) → c .before .before .read .result .table .tally .constraints ≡ length (open-at c .contents .constraints)
+unfolding tableOf
+bound c = ap (λ (t : Table). t .tally .constraints) (open-at c .table)
+
 returns : tie.Need-returns
 unfolding placeOf shownPlace
 returns c =
@@ -48,13 +52,21 @@ returns-2 c =
 element-copy-out-e : tie.Need-element-copy-out-e
 element-copy-out-e c = omega (arith, rw (used (c .before .before)) at (c .if1 .left), open-at (c .before .before) .whole .rows-fit)
 
-start-of-requires : tie.Need-start-of-requires
+mul-start : tie.Need-mul-start
+mul-start c = let told = c .before .before .before in record { fits = omega (arith, bound told, open-at told .whole .constraints-fit) }
+
+bytes-before-requires : tie.Need-bytes-before-requires
 unfolding tableOf
-start-of-requires c κs =
+bytes-before-requires c κs =
     let told = c .before .before .before in
     let o = open-at told in
     let long = padded-length blank rowLimit (o .contents .rows) (o .whole .rows-fit) in
     (omega (arith, rw (used told) at (c .before .if1 .left), o .whole .rows-fit), omega (arith, long, ap (λ (t : Table). length (t .rows)) (o .table)))
+
+add-start : tie.Need-add-start
+add-start c =
+    let told = c .before .before .before .before in
+    record { fits = omega (arith, bound told, open-at told .whole .constraints-fit, c .bytes-before .ensures .1) }
 
 returns-3 : tie.Need-returns-3
 unfolding shownPlace
@@ -63,10 +75,11 @@ returns-3 c =
     let row = row-at told in
     let o = open-at told in
     let rows = ap (λ (t : Table). t .rows) (o .table) in
-    let start = c .before .start-of .ensures .0 ∙ ap (λ (es : List Entry). length (written (take row es))) rows in
+    let before = c .before .bytes-before .ensures .0 ∙ ap (λ (es : List Entry). length (written (take row es))) rows in
+    let start = ap₂ (λ (n m : ℕ). sizeLimit * n + m) (bound told) before in
     let size = c .size-of .ensures .0 ∙ ap (λ (es : List Entry). sizeOf (getD es row blank)) rows in
     let there = rw (used told) at (c .before .before .before .if1 .left) in
-    rw (o .is, place-there (o .contents) row there) (ap At (found-part (o .contents) row (c .before .start-of .result) (c .size-of .result) there start size))
+    rw (o .is, place-there (o .contents) row there) (ap At (found-part (o .contents) (o .whole) row _ (c .size-of .result) there start size))
 
 pub find-spec : {M : Type 1} → statement M
 find-spec =
@@ -80,6 +93,8 @@ find-spec =
     returns-2
     (λ c. search needs)
     element-copy-out-e
-    start-of-requires
+    mul-start
+    bytes-before-requires
+    add-start
     (λ c κs. search needs)
     returns-3)

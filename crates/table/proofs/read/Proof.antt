@@ -8,11 +8,12 @@ use lib.ListN.{length}
 use Rattle.entries.specs.declared.Entry.{Entry}
 use Rattle.entries.specs.declared.refusals.Refusal.{Refusal}
 use Rattle.entries.specs.Said.{answered, refusing}
-use Rattle.table.specs.Steps.{rowLimit, questionLimit}
+use Rattle.table.specs.Steps.{rowLimit, questionLimit, constraintLimit}
 use Rattle.table.specs.Reading.{shown}
 use Rattle.entries.proofs.OneEntry.{size}
 use Rattle.table.proofs.Decoding.{took, turned-away}
-use Rattle.table.proofs.Turns.{At, start, here, inside-of, taken, room-here, row-room, row-more, question-room, question-more, bad, bad-inside, done}
+use Rattle.table.proofs.Turns.{At, start, here, inside-of, taken, room-here, row-room, row-more, question-room, question-more}
+use Rattle.table.proofs.Turns.{constraint-room, constraint-more, bad, bad-inside, done}
 use borrow.Author.Needs.{needs}
 use Rattle.table.proofs.read.Statement.{statement}
 use Rattle.table.proofs.read.Tie as tie
@@ -57,6 +58,13 @@ question-fits c =
     question-room (bytes told) (head .loop .t) (head .loop .at) (head .loop .inv) (in-bytes told) (entry told) (c .enum-told2 .given .0 .0) (taken-here told)
     (c .enum-told2 .given .1)
 
+constraint-fits : (c : tie.After-enum-told3 Inv-loop μ-loop) → at-head (c .before .before) .loop .t .tally .constraints < constraintLimit
+constraint-fits c =
+    let told = c .before .before in
+    let head = at-head told in
+    constraint-room (bytes told) (head .loop .t) (head .loop .at) (head .loop .inv) (in-bytes told) (entry told) (c .enum-told3 .given .0 .0)
+    (taken-here told) (c .enum-told3 .given .1)
+
 inside : (c : tie.After-size-of Inv-loop μ-loop) →
     at-head (c .before .before .before) .loop .at + c .size-of .result ≤ length (bytes (c .before .before .before))
 inside c =
@@ -75,6 +83,12 @@ mul-e-2 c = record { fits = omega (arith, question-fits c) }
 
 element-set-from-e-2 : tie.Need-element-set-from-e-2 Inv-loop μ-loop
 element-set-from-e-2 c = question-fits c
+
+mul-e-3 : tie.Need-mul-e-3 Inv-loop μ-loop
+mul-e-3 c = record { fits = omega (arith, constraint-fits c) }
+
+element-set-from-e-3 : tie.Need-element-set-from-e-3 Inv-loop μ-loop
+element-set-from-e-3 c = constraint-fits c
 
 one-more-requires : tie.Need-one-more-requires Inv-loop μ-loop
 one-more-requires c κs =
@@ -101,8 +115,12 @@ loop-again c =
     (λ w. row-more s (head .loop .t) (head .loop .at) (head .loop .inv) (in-bytes told) e (w .1 .given .0 .0) (came .t) (w .3 .result) (more .result)
     (taken-here told)
     (w .1 .given .1) (w .3 .ensures ∙ ap (max (head .loop .t .predicates)) (w .2 .ensures .0)) (w .4) (more .ensures))
+    (⊎-elim
     (λ w. question-more s (head .loop .t) (head .loop .at) (head .loop .inv) (in-bytes told) e (w .1 .given .0 .0) (came .t) (more .result) (taken-here told)
     (w .1 .given .1) (w .2) (more .ensures))
+    (λ w. constraint-more s (head .loop .t) (head .loop .at) (head .loop .inv) (in-bytes told) e (w .1 .given .0 .0) (came .t) (w .3 .result) (more .result)
+    (taken-here told)
+    (w .1 .given .1) (w .3 .ensures ∙ ap (max (head .loop .t .predicates)) (w .2 .ensures .0)) (w .4) (more .ensures)))
     (came .came) in
     rw (c .size-of .ensures .0) (taken s (head .loop .t) (head .loop .at) (head .loop .inv) (in-bytes told) e _ (taken-here told) stands)
 
@@ -164,6 +182,11 @@ read-spec =
     (λ c. search needs)
     mul-e-2
     element-set-from-e-2
+    (λ c. search needs)
+    mul-e-3
+    element-set-from-e-3
+    (λ c κs. search needs)
+    (λ c κs. search needs)
     one-more-requires
     (λ c κs. search needs)
     add-at

@@ -124,11 +124,11 @@ loop-again c =
     let put = c .before .put in
     let may = in-table told in
     let fit : now .length + sizeOf e ≤ size-of (now .bytes) = omega (arith, room told, now .inv .there) in
-    let k : 960 - now .length ≡ size-of (now .bytes) - now .length = omega (arith, now .inv .there) in
+    let k : byteLimit - now .length ≡ size-of (now .bytes) - now .length = omega (arith, now .inv .there) in
     let more =
     taken (now .inv) (inside (found at)) e (good at) e (may .0) _
-    (put-length (now .bytes) e (now .length) fit (960 - now .length) (put .last .0) k (put .ensures .1))
-    (put-front (now .bytes) e (now .length) fit (960 - now .length) (put .last .0) k (put .ensures .1)) in
+    (put-length (now .bytes) e (now .length) fit (byteLimit - now .length) (put .last .0) k (put .ensures .1))
+    (put-front (now .bytes) e (now .length) fit (byteLimit - now .length) (put .last .0) k (put .ensures .1)) in
     so-as more _ _ _ (ap (λ (n : ℕ). now .length + n) (put .ensures .0)) (may .1) (next-is (found at))
 
 returns-3 : tie.Need-returns-3 Inv-loop μ-loop

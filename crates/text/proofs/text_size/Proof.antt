@@ -3,7 +3,8 @@ use mathlib.Core.Path.{_≡_, refl, ap, _∙_}
 use Prim.Native.Nat.{_*_, _-_, _≤_, _<_}
 use native.Mathlib.Omega.{arith}
 use lib.ListN.{length, take}
-use Rattle.table.proofs.Held.{held, held-length, held-at}
+use Rattle.table.specs.Reading.{held}
+use Rattle.table.proofs.Held.{held-length, held-at}
 use Rattle.text.specs.Lines.{textOf}
 use Rattle.text.proofs.Filling.{size-more, text-all}
 use borrow.Author.Needs.{needs}
@@ -11,10 +12,10 @@ use Rattle.text.proofs.text_size.Statement.{statement}
 use Rattle.text.proofs.text_size.Tie as tie
 
 abbrev Inv-loop : tie.InvT-loop
-Inv-loop t used count size₀ i₀ size i = (i ≤ count) × (size ≡ length (textOf (take i (held t)))) × (size ≤ 30 * i)
+Inv-loop t bound ruled count size₀ i₀ size i = (i ≤ count) × (size ≡ length (textOf (take i (held t)))) × (size ≤ 30 * i)
 
 abbrev μ-loop : tie.MeasureT-loop
-μ-loop t used count size₀ i₀ size i = count - i
+μ-loop t bound ruled count size₀ i₀ size i = count - i
 
 loop-holds : tie.Need-loop-holds Inv-loop μ-loop
 unfolding textOf
@@ -24,7 +25,8 @@ add-size : tie.Need-add-size Inv-loop μ-loop
 add-size c =
     let head = c .before .before .before in
     let start = head .before in
-    record { fits = omega (arith, head .loop .inv .0, head .loop .inv .2, c .line-size .ensures .1, start .pre .used-fit, start .pre .asked-fit) }
+    let fits = start .pre in
+    record { fits = omega (arith, head .loop .inv .0, head .loop .inv .2, c .line-size .ensures .1, fits .bound-fit, fits .used-fit, fits .asked-fit) }
 
 loop-again : tie.Need-loop-again Inv-loop μ-loop
 loop-again c =
@@ -32,9 +34,10 @@ loop-again c =
     let head = join .before .before in
     let start = head .before in
     let i = head .loop .i in
-    let l : i < length (held (start .args .t1)) = omega (arith, held-length (start .pre), join .before .loop-test .taken) in
-    let e = held-at (start .pre) i (join .if1 .e) (omega (arith, join .before .loop-test .taken)) (λ w. (w .0 .taken, w .2)) (λ w.
-    (w .0 .left, w .2)) (join .if1 .came) in
+    let l : i < length (held (start .args .t1)) = omega (arith, held-length (start .args .t1), join .before .loop-test .taken) in
+    let e =
+    held-at (start .args .t1) i (join .if1 .e) (omega (arith, join .before .loop-test .taken))
+    (λ w. (w .0 .taken, w .2)) (λ w. (w .0 .left, w .1 .taken, w .3)) (λ w. (w .1 .left, w .3)) (join .if1 .came) in
     let more = size-more (held (start .args .t1)) i l (join .if1 .e) e in (
       omega (arith, join .before .loop-test .taken),
       omega (arith, head .loop .inv .1, c .line-size .ensures .0, more),
@@ -44,7 +47,7 @@ loop-again c =
 returns : tie.Need-returns Inv-loop μ-loop
 returns c =
     let start = c .before .before in
-    let i : c .before .loop .i ≡ length (held (start .args .t1)) = omega (arith, held-length (start .pre), c .before .loop .inv .0, c .loop-test .left) in
+    let i : c .before .loop .i ≡ length (held (start .args .t1)) = omega (arith, held-length (start .args .t1), c .before .loop .inv .0, c .loop-test .left) in
     c .before .loop .inv .1 ∙ ap length (text-all (held (start .args .t1)) (c .before .loop .i) i)
 
 pub text-size-spec : {M : Type 1} → statement M
@@ -54,7 +57,10 @@ text-size-spec =
     Inv-loop
     μ-loop
     (λ c. search needs)
+    (λ c. search needs)
     loop-holds
+    (λ c. search needs)
+    (λ c. search needs)
     (λ c. search needs)
     (λ c. search needs)
     (λ c. search needs)

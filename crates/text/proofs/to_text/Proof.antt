@@ -1,7 +1,7 @@
 -- That `to_text` (src/lib.rt) keeps its promise.
 use mathlib.Core.Path.{_≡_, sym, ap, _∙_}
 use Rattle.table.specs.Contents.{Contents, entries}
-use Rattle.table.specs.Reading.{Fits, contentsIn}
+use Rattle.table.specs.Reading.{contentsIn, Fits, held}
 use Rattle.entries.specs.Said.{answered}
 use Rattle.table.proofs.Opening.{Opened, opened, turned}
 use Rattle.table.proofs.Held.{table-fits, contents-back}
@@ -22,11 +22,11 @@ fits : (c : tie.After-enum-told) → Fits (c .before .before .read .result .tabl
 fits c = let o = open-at c in rw (o .table) (table-fits (o .contents) (o .whole))
 
 text-is : (c : tie.After-enum-told) →
-    toText (c .before .before .before .before .before .args .table .now) ≡ answered (textOf (entries (contentsIn (c .before .before .read .result .table))))
+    toText (c .before .before .before .before .before .args .table .now) ≡ answered (textOf (held (c .before .before .read .result .table)))
 unfolding toText
 text-is c =
     let o = open-at c in
-    rw (o .is) (ap (λ (c : Contents). answered (textOf (entries c))) (sym (ap contentsIn (o .table) ∙ contents-back (o .contents) (o .whole))))
+    rw (o .is) (ap (λ (c : Contents). answered (textOf (entries c))) (sym (ap contentsIn (o .table) ∙ contents-back (o .contents))))
 
 returns : tie.Need-returns
 unfolding toText

@@ -9,6 +9,9 @@ returns c = rw (c .before .before .kind .given .1) (c .word-of-row .ensures)
 returns-2 : tie.Need-returns-2
 returns-2 c = rw (c .before .before .kind2 .given .1) (c .word-of-question .ensures)
 
+returns-3 : tie.Need-returns-3
+returns-3 c = rw (c .before .before .kind3 .given .1) (c .word-of-constraint .ensures)
+
 pub word-of-spec : {M : Type 1} → statement M
 word-of-spec =
     tie.close
@@ -17,5 +20,8 @@ word-of-spec =
     (λ c κs. search needs)
     (λ c. search needs)
     (λ c κs. search needs)
+    (λ c. search needs)
+    (λ c κs. search needs)
     returns
-    returns-2)
+    returns-2
+    returns-3)

@@ -1,36 +1,31 @@
 -- That `steps::no_room` (src/steps.rt) keeps its promise.
-use mathlib.Core.Path.{refl}
-use native.Mathlib.Omega.{arith}
-use Rattle.table.proofs.Permission.{row-room-by, question-room-by}
+use Rattle.table.specs.Steps.{noRoom}
 use borrow.Author.Needs.{needs}
 use Rattle.table.proofs.steps.no_room.Statement.{statement}
 use Rattle.table.proofs.steps.no_room.Tie as tie
 
 returns : tie.Need-returns
-returns c = rw (c .before .before .enum-told .given .1) (row-room-by _ _ _ (λ h. refl) (λ h l. absurd (omega arith)) (λ h l. absurd (omega arith)))
+unfolding noRoom
+returns c = rw (c .before .enum-told .given .1) (c .room-by .ensures)
 
 returns-2 : tie.Need-returns-2
-returns-2 c =
-    rw (c .before .before .before .before .enum-told .given .1) (row-room-by _ _ _ (λ h. absurd (omega arith)) (λ h l. refl) (λ h l. absurd (omega arith)))
+unfolding noRoom
+returns-2 c = rw (c .before .enum-told2 .given .1) (c .room-by2 .ensures)
 
 returns-3 : tie.Need-returns-3
-returns-3 c =
-    rw (c .before .before .before .before .enum-told .given .1) (row-room-by _ _ _ (λ h. absurd (omega arith)) (λ h l. absurd (omega arith)) (λ h l. refl))
-
-returns-4 : tie.Need-returns-4
-returns-4 c = rw (c .before .before .enum-told2 .given .1) (question-room-by _ _ _ (λ h. refl) (λ h. absurd (omega arith)))
-
-returns-5 : tie.Need-returns-5
-returns-5 c = rw (c .before .before .enum-told2 .given .1) (question-room-by _ _ _ (λ h. absurd (omega arith)) (λ h. refl))
+unfolding noRoom
+returns-3 c = rw (c .before .enum-told3 .given .1) (c .room-by3 .ensures)
 
 pub no-room-spec : {M : Type 1} → statement M
 no-room-spec =
     tie.close
     (tie.spec
     (λ c. search needs)
-    returns
+    (λ c κs. search needs)
     (λ c. search needs)
+    (λ c κs. search needs)
+    (λ c. search needs)
+    (λ c κs. search needs)
+    returns
     returns-2
-    returns-3
-    returns-4
-    returns-5)
+    returns-3)

@@ -1,4 +1,4 @@
--- That `start_of` (src/lib.rt) keeps its promise.
+-- That `bytes_before` (src/lib.rt) keeps its promise.
 use Rattle.lookup.proofs.RowPart.{start-more}
 use Rattle.entries.specs.Entries.{sizeLimit}
 use Rattle.table.specs.Contents.{written}
@@ -7,8 +7,8 @@ use native.Mathlib.Omega.{arith}
 use Prim.Native.Nat.{_≤_, _-_, _*_}
 use mathlib.Core.Path.{_≡_, sym}
 use borrow.Author.Needs.{needs}
-use Rattle.lookup.proofs.start_of.Statement.{statement}
-use Rattle.lookup.proofs.start_of.Tie as tie
+use Rattle.lookup.proofs.bytes_before.Statement.{statement}
+use Rattle.lookup.proofs.bytes_before.Tie as tie
 
 abbrev Inv-loop : tie.InvT-loop
 Inv-loop row t start₀ i₀ start i = (i ≤ row) × (start ≡ length (written (take i (t .rows)))) × (start ≤ sizeLimit * i)
@@ -32,8 +32,8 @@ returns c =
     let q : at .loop .i ≡ at .before .args .row = omega arith in
     (rw q at (at .loop .inv .1), omega arith)
 
-pub start-of-spec : {M : Type 1} → statement M
-start-of-spec =
+pub bytes-before-spec : {M : Type 1} → statement M
+bytes-before-spec =
     tie.close
     (tie.spec
     Inv-loop
