@@ -4,6 +4,7 @@ mod tables;
 
 use belnap::Decision;
 use kinds::RowKind;
+use runs::Part;
 use table::Table;
 ghost use mathlib.Core.Path.{_≡_};
 ghost use lib.ListN.{getD};
@@ -77,7 +78,7 @@ pub fn possible(t: Table, row: usize, known: u32, request: u32) -> u8
     if Table::ROWS <= row {
         return sets::only(Decision::U);
     }
-    let rows = runs::flat_rows(t, row + 1);
+    let rows = runs::flat(t, Part::Rows, row + 1);
     let mut sets = [0u8; Table::ROWS];
     let end = runs::PER_ENTRY * (row + 1);
     fill_sets(&rows[..end], known, request, &mut sets);

@@ -1,25 +1,23 @@
 -- Laws of entries as a run of numbers: one entry more, and that a run holds the entries that it was made of.
 -- Assumes nothing.
-use mathlib.Core.Path.{_≡_, refl, ap, ap₂, _∙_}
+use mathlib.Core.Path.{_≡_, refl, sym, ap, ap₂, _∙_}
 use mathlib.Core.List.{List, [], _∷_, _++_}
-use Prim.Native.Nat.{ℕ, zero, suc, _+_, _*_, _-_, _≤_, _<_}
+use Prim.Native.Nat.{ℕ, zero, suc, _+_, _*_, _-_, _/_, _≤_, _<_}
 use native.Mathlib.Omega.{arith}
 use native.Mathlib.Numerals.{add-one}
-use lib.ListN.{length, getD, take, set, replicate, length-append, List·getD-append}
-use lib.Seq.{getD-at, length-take-le}
+use lib.ListN.{length, getD, take, set, replicate, length-append}
+use lib.Seq.{ext-getD, length-take-le}
 use Rattle.entries.specs.declared.Entry.{Entry}
 use Rattle.kinds.specs.Kinds.{formOf, kindOf}
 use Rattle.entries.specs.Entries.{numberLimit, blank}
-use Rattle.table.specs.Reading.{padded}
-use Rattle.runs.specs.Flat.{perEntry, upTo, flat, kindIn, entriesIn, roomFor}
+use Rattle.table.specs.Reading.{padded, upTo}
+use Rattle.runs.specs.declared.Part.{Part}
+use Rattle.runs.specs.declared.Part.the-variants.{Constraints, Rows, Questions}
+use Rattle.table.specs.Steps.{rowLimit}
+use Rattle.runs.specs.Flat.{perEntry, limitOf, flat, kindIn, entriesIn, roomFor}
 use Rattle.kinds.proofs.KindTable.{kind-of-byte}
-use Rattle.entries.proofs.Numbers.{by-order}
 use Rattle.table.proofs.Padding.{padded-length, padded-next}
-
-upTo-length : (es : List Entry) (n : ℕ) → length (upTo es n) ≡ n
-unfolding upTo
-upTo-length es zero = refl
-upTo-length es (suc n) = let h = upTo-length es n in length-append (upTo es n) (getD es n blank ∷ []) ∙ omega (arith, h)
+use Rattle.table.proofs.Held.{upTo-length, upTo-at}
 
 flat-length : (es : List Entry) → length (flat es) ≡ perEntry * length es
 unfolding flat
@@ -30,6 +28,12 @@ flat-more : (es : List Entry) (e : Entry) → flat (es ++ (e ∷ [])) ≡ ((flat
 unfolding flat
 flat-more [] e = refl
 flat-more (x ∷ es) e = ap (λ (l : List ℕ). formOf (x .kind) .byte ∷ x .a ∷ x .b ∷ l) (flat-more es e)
+
+-- no part has more entries than there are rows
+pub part-fits : (part : Part) → limitOf part ≤ rowLimit
+part-fits Constraints = omega arith
+part-fits Rows = omega arith
+part-fits Questions = omega arith
 
 -- a run that the first n entries of a list were written to, in an array of so many numbers
 abbrev pub Written : List Entry → ℕ → ℕ → List ℕ → Type 0
@@ -81,16 +85,13 @@ held (e ∷ es) m (suc i) = held es m i
 run-holds : (es : List Entry) (n i : ℕ) → getD (entriesIn (padded 0 n (flat es))) i blank ≡ getD es i blank
 run-holds es n i = held es (n - length (flat es)) i
 
-upTo-at : (es : List Entry) (n i : ℕ) → i < n → getD (upTo es n) i blank ≡ getD es i blank
-unfolding upTo
-upTo-at es zero i h = absurd (omega arith)
-upTo-at es (suc n) i h =
-    let l = upTo es n in
-    let m = upTo-length es n in
-    let ih = upTo-at es n i in
-    by-order i n
-    (λ k. List·getD-append l (getD es n blank ∷ []) blank i (rw m k) ∙ ih k)
-    (λ k. let q : i ≡ n = omega arith in rw q (getD-at l (getD es n blank) [] blank n m))
+-- how many entries a run holds
+pub entries-count : (l : List ℕ) → length (entriesIn l) ≡ length l / perEntry
+unfolding entriesIn
+entries-count [] = refl
+entries-count (k ∷ []) = refl
+entries-count (k ∷ a ∷ []) = refl
+entries-count (k ∷ a ∷ b ∷ l) = omega (arith, entries-count l)
 
 -- what stands at a number of a run
 abbrev pub entryFrom : List ℕ → ℕ → ℕ → ℕ → Entry
@@ -154,6 +155,13 @@ module _ (es : List Entry) (n size : ℕ) (run : List ℕ) (is : Written es n si
 
     pub front-length : length (front n run) ≡ perEntry * n
     front-length = length-take-le (perEntry * n) run (omega (arith, run-length))
+
+    -- as a list
+    pub run-entries : entriesIn (front n run) ≡ upTo es n
+    run-entries =
+        let many : length (entriesIn (front n run)) ≡ n = omega (arith, entries-count (front n run), front-length) in
+        ext-getD blank (entriesIn (front n run)) (upTo es n) (many ∙ sym (upTo-length es n))
+        (λ i l. let here = rw many at l in run-at i here ∙ sym (upTo-at es n i here))
 
     pub room-in : (places : ℕ) → n ≤ places → roomFor (front n run) places ≡ n
     room-in places l = omega (arith, front-length)

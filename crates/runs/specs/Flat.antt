@@ -1,7 +1,7 @@
--- Entries as a run of numbers, three an entry: the form in which rows and questions are lent to a loop.
-use Prim.Native.Nat.{ℕ, zero, suc, _/_, min}
-use mathlib.Core.List.{List, [], _∷_, _++_}
-use lib.ListN.{length, getD}
+-- Entries as a run of numbers, three an entry: the form in which a part of a table is lent to a loop.
+use Prim.Native.Nat.{ℕ, _/_, min}
+use mathlib.Core.List.{List, [], _∷_}
+use lib.ListN.{length}
 use Rattle.belnap.specs.declared.Decision.the-variants.{U}
 use Rattle.kinds.specs.declared.Kind.{Kind}
 use Rattle.kinds.specs.declared.RowKind.the-variants.{Always}
@@ -9,17 +9,26 @@ use Rattle.kinds.specs.declared.Kind.the-variants.{Row}
 use Rattle.kinds.specs.declared.Announced.{Announced}
 use Rattle.kinds.specs.declared.Announced.the-variants.{Listed, Unlisted}
 use Rattle.entries.specs.declared.Entry.{Entry}
+use Rattle.table.specs.declared.Table.{Table}
+use Rattle.runs.specs.declared.Part.{Part}
+use Rattle.runs.specs.declared.Part.the-variants.{Constraints, Rows, Questions}
+use Rattle.table.specs.Steps.{rowLimit, questionLimit, constraintLimit}
 use Rattle.kinds.specs.Kinds.{formOf, kindOf}
-use Rattle.entries.specs.Entries.{blank}
+
+-- the entries of a part of a table's struct, and how many of them there is room for
+abbrev pub entriesOf : Part → Table → List Entry
+entriesOf Constraints t = t .constraints
+entriesOf Rows t = t .rows
+entriesOf Questions t = t .questions
+
+abbrev pub limitOf : Part → ℕ
+limitOf Constraints = constraintLimit
+limitOf Rows = rowLimit
+limitOf Questions = questionLimit
 
 -- how many numbers an entry has in a run
 abbrev pub perEntry : ℕ
 perEntry = 3
-
--- the first n entries; blank ones past the end
-unfoldable pub upTo : List Entry → ℕ → List Entry
-upTo es zero = []
-upTo es (suc n) = upTo es n ++ (getD es n blank ∷ [])
 
 -- an entry's kind byte and its two numbers
 unfoldable pub flat : List Entry → List ℕ

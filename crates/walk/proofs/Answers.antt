@@ -1,18 +1,22 @@
--- What a walk says: where it finds nothing, the question is true at every request; where it finds a request, that one breaks the question, and is the
--- first of all in 01's order that does. Stated over the predicates to be tried, what a visit sees and what is looked for, and then of the questions of a table.
+-- What a walk says: where it finds nothing, the question is true at every request within the constraints; where it finds a request, that one is within
+-- them, breaks the question, and is the first of all in 01's order that does. Stated over the predicates to be tried, what a visit sees and what is looked
+-- for, and then of the questions of a table.
 -- Assumes nothing.
 use mathlib.Core.Path.{_≡_, refl, sym, ap, subst, _∙_}
-use mathlib.Core.Bool.{Bool, true, false, cond, not}
+use mathlib.Core.Bool.{Bool, true, false, cond, not, _&&_}
 use mathlib.Core.List.{List, [], _∷_, _++_, append-nil}
 use mathlib.Core.Option.{Option, none, some}
+use mathlib.Core.Logic.{⊎-elim}
 use Prim.Native.Nat.{ℕ, zero, suc, _+_, _-_, _^_, _≤_, _<_}
 use native.Mathlib.Omega.{arith}
 use native.Mathlib.Nat.{zero-add, suc-add}
 use borrow.Author.Tests.{not-true, not-false}
 use Rattle.belnap.specs.Decisions.{alike}
-use Rattle.belnap.proofs.Finite.{never}
+use Rattle.belnap.proofs.Finite.{never, both-parts, and-false}
 use Rattle.entries.specs.declared.Entry.{Entry}
-use Rattle.table.specs.Contents.{Covers}
+use Rattle.table.specs.Contents.{Contents, highest, predicates, Covers}
+use Rattle.table.proofs.Laws.{covered}
+use Rattle.table.specs.Whole.{Each, ConstraintAt}
 use Rattle.entries.proofs.Numbers.{by-order, by-equal}
 use Rattle.decide.specs.Meaning.{bit}
 use Rattle.decide.specs.Requests.{Fills}
@@ -24,7 +28,11 @@ use Rattle.walk.specs.Order.{beforeBy, comesBefore}
 use Rattle.walk.proofs.Powers.{power-positive, known-more}
 use Rattle.walk.proofs.Bits.{bit-above, bit-known, bit-set, bit-else, bits-below}
 use Rattle.walk.proofs.Replies.{found-behind}
-use Rattle.walk.proofs.Looks.{settled, single-settled}
+use Rattle.walk.proofs.Looks.{settled, single-settled, heeds-nothing, heeds-found, heeds-open}
+use Rattle.constraints.specs.declared.Standing.{Standing}
+use Rattle.constraints.specs.Constraints.{within, standing}
+use Rattle.constraints.proofs.Requests.{broken-outside, kept-within, waits-no-more}
+pub use Rattle.constraints.proofs.Requests.{OnlyKnown}
 use Rattle.questions.proofs.TruthSets.{filling-truth, known-truth}
 
 -- one predicate more is known, to be no or to be yes: what fills in the facts then, and before
@@ -141,10 +149,6 @@ tried-more : (ps : List ℕ) (known i : ℕ) → Fresh ps known → bit (tried p
 unfolding tried Fresh
 tried-more [] known i f h = h
 tried-more (p ∷ ps) known i f h = unknown-still known p i (f .0) (tried-more ps (known + 2 ^ p) i (f .1) h)
-
--- the facts say yes only of what is known
-abbrev pub OnlyKnown : ℕ → ℕ → Type 0
-OnlyKnown known facts = (i : ℕ) → bit known i ≡ false → bit facts i ≡ false
 
 only-no : (known facts p : ℕ) → bit known p ≡ false → OnlyKnown known facts → OnlyKnown (known + 2 ^ p) facts
 only-no known facts p u t i h = t i (unknown-still known p i u h)
@@ -302,49 +306,81 @@ begun-all n = record {
   ends = let q : 0 + n ≡ n = omega arith in rw q at (tried-from n 0);
 }
 
--- the questions of a table
-module _ (rows questions : List Entry) (n : ℕ) (covers : Covers n rows) (j : ℕ) where
+-- the questions of a table, whose constraints and rows use predicates below n
+pub record Bounded (constraints rows : List Entry) (n : ℕ) : Type 0 where
+  pub sound : Each ConstraintAt 0 constraints
+  pub few : highest constraints ≤ n
+  pub covers : Covers n rows
+
+pub bounded : (c : Contents) → Each ConstraintAt 0 (c .constraints) → Bounded (c .constraints) (c .rows) (predicates c)
+bounded c sound = record { sound = sound; few = omega arith; covers = covered c }
+
+module _ (constraints rows questions : List Entry) (n : ℕ) (bounded : Bounded constraints rows n) (j : ℕ) where
   abbrev see : ℕ → ℕ → Look
-  see = sees rows questions j
+  see = sees constraints rows questions j
+
+  abbrev stands : ℕ → ℕ → Standing
+  stands = standing constraints
+
+  abbrev looks : ℕ → ℕ → Look
+  looks known facts = look (truthSet rows questions known facts j)
 
   abbrev trueAt : ℕ → Bool
   trueAt o = truth rows questions o j
 
   -- a settled visit sees the truth at every request that fills in its facts
-  right : (b : Bool) (known facts o : ℕ) → see known facts ≡ cond b Nothing Found → Fills known facts o → trueAt o ≡ b
+  right : (b : Bool) (known facts o : ℕ) → looks known facts ≡ cond b Nothing Found → Fills known facts o → trueAt o ≡ b
   right b known facts o e a = settled (truthSet rows questions known facts j) b (trueAt o) e (filling-truth rows questions known facts o j a)
 
-  -- "At k = n every question is settled."
+  -- "At k = n every question is settled", and no constraint waits
   pub settled-at-n : (facts : ℕ) → see (2 ^ n - 1) facts ≡ Open → ⊥
-  settled-at-n facts e = single-settled (trueAt facts) (sym (ap look (known-truth rows questions n covers (2 ^ n - 1) facts j (bit-known n))) ∙ e)
+  settled-at-n facts e =
+      ⊎-elim
+      (waits-no-more (2 ^ n - 1) facts n (bit-known n) constraints (bounded .sound) (bounded .few))
+      (λ l. single-settled (trueAt facts) (sym (ap look (known-truth rows questions n (bounded .covers) (2 ^ n - 1) facts j (bit-known n))) ∙ l))
+      (heeds-open (stands (2 ^ n - 1) facts) (looks (2 ^ n - 1) facts) e)
 
+  -- a request within the constraints that breaks the question
   abbrev pub breaks : ℕ → Bool
-  breaks o = not (trueAt o)
+  breaks o = within constraints o && not (trueAt o)
 
   pub nowhere : (known facts o : ℕ) → see known facts ≡ Nothing → Fills known facts o → breaks o ≡ false
-  nowhere known facts o e a = ap not (right true known facts o e a)
+  nowhere known facts o e a =
+      ⊎-elim
+      (λ s. rw (broken-outside known facts o a constraints s))
+      (λ l. rw (right true known facts o l a) (and-false (within constraints o)))
+      (heeds-nothing (stands known facts) (looks known facts) e)
 
   pub there : (known facts : ℕ) → OnlyKnown known facts → see known facts ≡ Found → breaks facts ≡ true
-  there known facts only e = ap not (right false known facts facts e (λ i h. refl))
+  there known facts only e =
+      let both = heeds-found (stands known facts) (looks known facts) e in
+      rw (kept-within known facts only constraints (both .0), right false known facts facts (both .1) (λ i h. refl))
 
-  said : Says see breaks (2 ^ n - 1) nowhere there settled-at-n (predicatesFrom 0 n) 0 0 (found (walk rows questions n j))
+  said : Says see breaks (2 ^ n - 1) nowhere there settled-at-n (predicatesFrom 0 n) 0 0 (found (walk constraints rows questions n j))
   said = says see breaks (2 ^ n - 1) nowhere there settled-at-n (predicatesFrom 0 n) 0 0 (begun-all n)
 
   nothing-known : (o : ℕ) → Fills 0 0 o
   nothing-known o i h = never (sym h ∙ bit-above 0 0 i (omega arith) (omega arith))
 
-  -- where the walk finds nothing, the question is true at every request
-  pub nothing-holds : found (walk rows questions n j) ≡ none → (o : ℕ) → trueAt o ≡ true
-  nothing-holds e o = not-false (trueAt o) ((rw e at said) o (nothing-known o))
+  -- a request within the constraints that does not break the question keeps it
+  keeps : (o : ℕ) → breaks o ≡ false → within constraints o ≡ true → trueAt o ≡ true
+  keeps o e w = not-false (trueAt o) (rw w at e)
 
-  -- where it finds a request, that one breaks the question, has no bit from n up, and every request before it keeps the question: over the n predicates,
-  -- and so over any greater number of them
-  pub breaking-first : (m : ℕ) → found (walk rows questions n j) ≡ some m →
-      (trueAt m ≡ false) × (m < 2 ^ n) × ((more o : ℕ) → comesBefore (n + more) o m ≡ true → trueAt o ≡ true)
+  -- where the walk finds nothing, the question is true at every request within the constraints
+  pub nothing-holds : found (walk constraints rows questions n j) ≡ none → (o : ℕ) → within constraints o ≡ true → trueAt o ≡ true
+  nothing-holds e o = keeps o ((rw e at said) o (nothing-known o))
+
+  -- where it finds a request, that one is within the constraints, breaks the question, has no bit from n up, and every request before it that is within the
+  -- constraints keeps the question: over the n predicates, and so over any greater number of them
+  pub breaking-first : (m : ℕ) → found (walk constraints rows questions n j) ≡ some m →
+      (within constraints m ≡ true) × (trueAt m ≡ false) × (m < 2 ^ n)
+      × ((more o : ℕ) → comesBefore (n + more) o m ≡ true → within constraints o ≡ true → trueAt o ≡ true)
   breaking-first m e =
       let b = rw e at said in
+      let hit = both-parts (within constraints m) (not (trueAt m)) (b .hits) in
       let none-above : (i : ℕ) → n ≤ i → bit m i ≡ false = λ i l. b .small i (bit-above (2 ^ n - 1) n i (omega (arith, power-positive n)) l) in (
-        not-true (trueAt m) (b .hits),
+        hit .0,
+        not-true (trueAt m) (hit .1),
         bits-below n m none-above,
-        λ more o h. not-false (trueAt o) (b .first o (nothing-known o) (before-fewer n more 0 o m (λ p l. none-above p (omega arith)) h)),
+        λ more o h. keeps o (b .first o (nothing-known o) (before-fewer n more 0 o m (λ p l. none-above p (omega arith)) h)),
       )

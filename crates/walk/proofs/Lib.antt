@@ -6,6 +6,7 @@ pub mod Sights
 pub mod Replies
 pub mod Answers
 pub mod Budgets
+pub mod Plain
 pub mod Itself
 pub mod Twice
 pub mod Renaming

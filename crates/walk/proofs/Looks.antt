@@ -1,15 +1,19 @@
--- What a visit sees of a set of truths: where it is settled, its one member; and by the mask.
+-- What a visit sees of a set of truths: where it is settled, its one member; by the mask; and by how its facts stand to the constraints.
 -- Assumes nothing.
 use Prim.Native.Nat.{ℕ, zero, suc, _%_, _<_}
 use mathlib.Core.Path.{_≡_, refl, sym, ap, _∙_}
 use mathlib.Core.Bool.{Bool, true, false, cond}
+use mathlib.Core.Logic.{_⊎_, inl, inr}
 use native.Mathlib.Omega.{arith}
 use Rattle.decide.specs.Meaning.{bit}
 use Rattle.belnap.proofs.Finite.{never}
 use Rattle.possible.specs.Sets.{truths, Set, Within, single, ofMask}
 use Rattle.possible.proofs.Masks.{low}
+use Rattle.constraints.specs.declared.Standing.{Standing}
+use Rattle.constraints.specs.declared.Standing.the-variants.{Broken, Waiting, Kept}
+use Rattle.walk.specs.declared.Look.{Look}
 use Rattle.walk.specs.declared.Look.the-variants.{Nothing, Found, Open}
-use Rattle.walk.specs.Walk.{look}
+use Rattle.walk.specs.Walk.{look, heeding}
 
 -- a set that is seen settled has no other member
 pub settled : (t : Set truths) (b r : Bool) → look t ≡ cond b Nothing Found → t .has r ≡ true → r ≡ b
@@ -59,3 +63,23 @@ look-open (suc zero) h p q = absurd (p refl)
 look-open (suc (suc zero)) h p q = absurd (q refl)
 look-open (suc (suc (suc zero))) h p q = refl
 look-open (suc (suc (suc (suc n)))) h p q = absurd (omega arith)
+
+-- what is seen by how the facts stand to the constraints: nothing, a request, or neither yet
+pub heeds-nothing : (s : Standing) (l : Look) → heeding s l ≡ Nothing → (s ≡ Broken) ⊎ (l ≡ Nothing)
+heeds-nothing Broken l e = inl refl
+heeds-nothing Waiting Nothing e = inr refl
+heeds-nothing Waiting Found e = absurd (let z : _≡_ {A = ℕ} 0 1 = cc in omega arith)
+heeds-nothing Waiting Open e = absurd (let z : _≡_ {A = ℕ} 0 1 = cc in omega arith)
+heeds-nothing Kept l e = inr e
+
+pub heeds-found : (s : Standing) (l : Look) → heeding s l ≡ Found → (s ≡ Kept) × (l ≡ Found)
+heeds-found Broken l e = absurd (let z : _≡_ {A = ℕ} 0 1 = cc in omega arith)
+heeds-found Waiting Nothing e = absurd (let z : _≡_ {A = ℕ} 0 1 = cc in omega arith)
+heeds-found Waiting Found e = absurd (let z : _≡_ {A = ℕ} 0 1 = cc in omega arith)
+heeds-found Waiting Open e = absurd (let z : _≡_ {A = ℕ} 0 1 = cc in omega arith)
+heeds-found Kept l e = (refl, e)
+
+pub heeds-open : (s : Standing) (l : Look) → heeding s l ≡ Open → (s ≡ Waiting) ⊎ (l ≡ Open)
+heeds-open Broken l e = absurd (let z : _≡_ {A = ℕ} 0 1 = cc in omega arith)
+heeds-open Waiting l e = inl refl
+heeds-open Kept l e = inr e

@@ -18,17 +18,18 @@ use Rattle.possible.specs.Possible.{setOf, possible}
 use Rattle.possible.specs.Filled.{filled}
 use Rattle.possible.proofs.SetLoop.{filled-set, filled-length}
 use Rattle.runs.proofs.Runs.{Written, front, run-at, front-length}
-use Rattle.questions.specs.Questions.{asksSet}
+use Rattle.questions.specs.Questions.{asksSet, truthSet}
 use Rattle.questions.specs.Inner.{top, setAt}
 use Rattle.questions.proofs.Tops.{only-top}
 use Rattle.walk.specs.declared.Look.{Look}
-use Rattle.walk.specs.Walk.{look, sees, walk, walkBy}
+use Rattle.constraints.specs.Constraints.{standing}
+use Rattle.walk.specs.Walk.{look, heeding, sees, walk, walkBy}
 use Rattle.walk.specs.Inner.{Lent}
 
 pub visit-sees : (rows questions sets₀ sets masks₀ masks : List ℕ) (j known facts : ℕ) → Lent rows questions sets₀ masks₀ j →
     sets ≡ filled decisions (setOf known facts) (single U) rows sets₀ →
     masks ≡ filled truths (asksSet (setAt sets)) (single true) questions masks₀ →
-    look (ofMask truths (getD masks j 0)) ≡ sees (entriesIn rows) (entriesIn questions) j known facts
+    look (ofMask truths (getD masks j 0)) ≡ look (truthSet (entriesIn rows) (entriesIn questions) known facts j)
 visit-sees rows questions sets₀ sets masks₀ masks j known facts lent p q =
     let f = setOf known facts in
     let seen = length sets₀ in
@@ -46,7 +47,8 @@ pub lent-kept : (rows questions sets truths fresh others : List ℕ) (j : ℕ) �
 lent-kept rows questions sets truths fresh others j p q lent = rw (p, q) lent
 
 -- a walk over the runs that a table's entries were written to is the walk over the entries
-module _ (rows questions : List Entry) (run asked : List ℕ) (m o seen j : ℕ) (p : Written rows seen m run) (q : Written questions (j + 1) o asked) where
+module _ (constraints rows questions : List Entry) (run asked : List ℕ) (m o seen j : ℕ) (p : Written rows seen m run)
+    (q : Written questions (j + 1) o asked) where
   abbrev rowPart : List ℕ
   rowPart = front seen run
 
@@ -64,24 +66,26 @@ module _ (rows questions : List Entry) (run asked : List ℕ) (m o seen j : ℕ)
         let truths-long = length-take-le (j + 1) truths h in
         (omega (arith, rows-long, sets-long), omega (arith, questions-long, truths-long), omega (arith, truths-long), omega (arith, all, sets-long))
 
-    run-sees : (known facts : ℕ) → sees (entriesIn rowPart) (entriesIn questionPart) j known facts ≡ sees rows questions j known facts
+    run-sees : (known facts : ℕ) → sees constraints (entriesIn rowPart) (entriesIn questionPart) j known facts ≡ sees constraints rows questions j known facts
     run-sees known facts =
         let f = setOf known facts in
         let each : (r : ℕ) → r < seen → possible (entriesIn rowPart) known facts r ≡ possible rows known facts r =
         λ r h. same-value f (single U) (entriesIn rowPart) rows r (λ i l. run-at rows seen m run p i (omega arith)) in
-        ap look (only-top (entriesIn questionPart) seen (possible (entriesIn rowPart) known facts) (possible rows known facts) each j all
+        ap (λ (t : Set truths). heeding (standing constraints known facts) (look t))
+        (only-top (entriesIn questionPart) seen (possible (entriesIn rowPart) known facts) (possible rows known facts) each j all
         ∙ same-value (asksSet (possible rows known facts)) (single true) (entriesIn questionPart) questions j
         (λ i l. run-at questions (j + 1) o asked q i (omega arith)))
 
-    pub run-walk : (n : ℕ) → walkBy (sees (entriesIn rowPart) (entriesIn questionPart) j) n ≡ walk rows questions n j
+    pub run-walk : (n : ℕ) → walkBy (sees constraints (entriesIn rowPart) (entriesIn questionPart) j) n ≡ walk constraints rows questions n j
     run-walk n = ap (λ (see : ℕ → ℕ → Look). walkBy see n) (fun-ext (λ known. fun-ext (λ facts. run-sees known facts)))
 
 -- a walk goes by what stands at each number alone
-pub same-walk : (rows fewer questions asked : List Entry) → ((i : ℕ) → getD rows i blank ≡ getD fewer i blank) →
+pub same-walk : (constraints rows fewer questions asked : List Entry) → ((i : ℕ) → getD rows i blank ≡ getD fewer i blank) →
     ((i : ℕ) → getD questions i blank ≡ getD asked i blank) →
-    (n j : ℕ) → walk rows questions n j ≡ walk fewer asked n j
-same-walk rows fewer questions asked p q n j =
+    (n j : ℕ) → walk constraints rows questions n j ≡ walk constraints fewer asked n j
+same-walk constraints rows fewer questions asked p q n j =
     ap (λ (see : ℕ → ℕ → Look). walkBy see n) (fun-ext (λ known. fun-ext (λ facts.
     let sets = fun-ext (λ r. same-value (setOf known facts) (single U) rows fewer r (λ i l. p i)) in
-    ap (λ (f : ℕ → Set decisions). look (valueAt (asksSet f) (single true) questions j)) sets
-    ∙ ap look (same-value (asksSet (possible fewer known facts)) (single true) questions asked j (λ i l. q i)))))
+    ap (λ (t : Set truths). heeding (standing constraints known facts) (look t))
+    (ap (λ (f : ℕ → Set decisions). valueAt (asksSet f) (single true) questions j) sets
+    ∙ same-value (asksSet (possible fewer known facts)) (single true) questions asked j (λ i l. q i)))))

@@ -10,7 +10,6 @@ use native.Mathlib.Omega.{arith}
 use lib.ListN.{length, length-append}
 use Rattle.belnap.proofs.Finite.{never}
 use Rattle.entries.specs.declared.Entry.{Entry}
-use Rattle.table.specs.Contents.{Covers}
 use Rattle.decide.specs.Requests.{Fills}
 use Rattle.questions.specs.Questions.{truth, truthSet}
 use Rattle.questions.specs.Twice.{truthTwice}
@@ -18,16 +17,33 @@ use Rattle.questions.proofs.TruthSets.{filling-truth}
 use Rattle.questions.proofs.Twice.{truth-within-twice}
 use Rattle.walk.specs.declared.Look.{Look}
 use Rattle.walk.specs.declared.Look.the-variants.{Nothing, Found, Open}
-use Rattle.walk.specs.Walk.{Visit, foundAt, found, ifNone, orElse, below, visitsFrom, predicatesFrom, sees, walk}
+use Rattle.constraints.specs.declared.Standing.{Standing}
+use Rattle.constraints.specs.declared.Standing.the-variants.{Broken, Waiting, Kept}
+use Rattle.constraints.specs.Constraints.{standing}
+use Rattle.walk.specs.Walk.{Visit, look, heeding, foundAt, found, ifNone, orElse, below, visitsFrom, predicatesFrom, sees, walk}
 use Rattle.walk.specs.Twice.{seesTwice, walkTwice}
 use Rattle.walk.proofs.Looks.{settled-within}
 use Rattle.walk.proofs.Budgets.{below-bound}
-use Rattle.walk.proofs.Answers.{OnlyKnown, Begun, unknown, unsaid, begun-no, begun-yes, begun-all, less-no, less-yes, found-else, nothing-hit}
+use Rattle.walk.proofs.Answers.{Bounded, OnlyKnown, Begun, unknown, unsaid, begun-no, begun-yes, begun-all, less-no, less-yes, found-else, nothing-hit}
 use Rattle.walk.proofs.Answers.{breaks, nowhere as breaks-nowhere, there as breaks-there, settled-at-n}
 
 -- one look is settled wherever the other is, and alike
 abbrev Sharper : Look → Look → Type 0
 Sharper l m = (b : Bool) → m ≡ cond b Nothing Found → l ≡ cond b Nothing Found
+
+-- and so it is where both heed constraints
+heeds-sharper : (s : Standing) (l m : Look) → Sharper l m → Sharper (heeding s l) (heeding s m)
+heeds-sharper Broken l m h b e = e
+heeds-sharper Waiting l Nothing h true e = rw (h true refl)
+heeds-sharper Waiting l m h false e = never-found m e
+  where
+    never-found : (m : Look) → heeding Waiting m ≡ Found → heeding Waiting l ≡ Found
+    never-found Nothing e = absurd (let z : _≡_ {A = ℕ} 0 1 = cc in omega arith)
+    never-found Found e = absurd (let z : _≡_ {A = ℕ} 0 1 = cc in omega arith)
+    never-found Open e = absurd (let z : _≡_ {A = ℕ} 0 1 = cc in omega arith)
+heeds-sharper Waiting l Found h true e = absurd (let z : _≡_ {A = ℕ} 0 1 = cc in omega arith)
+heeds-sharper Waiting l Open h true e = absurd (let z : _≡_ {A = ℕ} 0 1 = cc in omega arith)
+heeds-sharper Kept l m h b e = h b e
 
 -- fewer visits below a visit, and fewer behind others
 below-fewer : (l m : Look) (vs ws : List Visit) → Sharper l m → length vs ≤ length ws → length (below l vs) ≤ length (below m ws)
@@ -89,14 +105,18 @@ module _ (see wide : ℕ → ℕ → Look) (hit : ℕ → Bool) (all : ℕ)
       omega (arith, below-fewer (see known facts) (wide known facts) (orElse vs ws) (orElse first second) (sharper known facts) both)
 
 -- the questions of a table
-module _ (rows questions : List Entry) (n : ℕ) (covers : Covers n rows) (j : ℕ) where
-  sharper : (known facts : ℕ) → Sharper (sees rows questions j known facts) (seesTwice rows questions j known facts)
-  sharper known facts b =
+module _ (constraints rows questions : List Entry) (n : ℕ) (bounded : Bounded constraints rows n) (j : ℕ) where
+  settled-still : (known facts : ℕ) → Sharper (look (truthSet rows questions known facts j)) (look (truthTwice rows questions known facts j))
+  settled-still known facts b =
       settled-within (truthSet rows questions known facts j) (truthTwice rows questions known facts j) b (truth rows questions facts j)
       (truth-within-twice rows questions known facts j) (filling-truth rows questions known facts facts j (λ i h. refl))
 
-  pub no-longer : length (walk rows questions n j) ≤ length (walkTwice rows questions n j)
+  sharper : (known facts : ℕ) → Sharper (sees constraints rows questions j known facts) (seesTwice constraints rows questions j known facts)
+  sharper known facts = heeds-sharper (standing constraints known facts) _ _ (settled-still known facts)
+
+  pub no-longer : length (walk constraints rows questions n j) ≤ length (walkTwice constraints rows questions n j)
   no-longer =
-      fewer-visits (sees rows questions j) (seesTwice rows questions j) (breaks rows questions n covers j) (2 ^ n - 1)
-      (breaks-nowhere rows questions n covers j) (breaks-there rows questions n covers j) (settled-at-n rows questions n covers j) sharper
+      fewer-visits (sees constraints rows questions j) (seesTwice constraints rows questions j) (breaks constraints rows questions n bounded j) (2 ^ n - 1)
+      (breaks-nowhere constraints rows questions n bounded j) (breaks-there constraints rows questions n bounded j)
+      (settled-at-n constraints rows questions n bounded j) sharper
       (predicatesFrom 0 n) 0 0 (begun-all n)

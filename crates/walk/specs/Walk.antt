@@ -1,5 +1,5 @@
--- The walk that answers a question (01, "The walk that answers a question"): the visits that it makes, in order. What was found is found by one of them,
--- their number is the count, and a budget is spent on the first of them. Stated over the predicates to be tried, and over what a visit sees where these
+-- The walk that answers a question (01, "The walk that answers a question"; 02, L5): the visits that it makes, in order. What was found is found by one of
+-- them, their number is the count, and a budget is spent on the first of them. Stated over the predicates to be tried, and over what a visit sees where these
 -- predicates are known and these of them yes.
 use Prim.Native.Nat.{ℕ, zero, suc, _+_, _^_}
 use mathlib.Core.Bool.{true, false, cond}
@@ -10,6 +10,9 @@ use lib.ListN.{length}
 use Rattle.entries.specs.declared.Entry.{Entry}
 use Rattle.possible.specs.Sets.{truths, Set}
 use Rattle.questions.specs.Questions.{truthSet}
+use Rattle.constraints.specs.declared.Standing.{Standing}
+use Rattle.constraints.specs.declared.Standing.the-variants.{Broken, Waiting, Kept}
+use Rattle.constraints.specs.Constraints.{standing}
 use Rattle.walk.specs.declared.Look.{Look}
 use Rattle.walk.specs.declared.Look.the-variants.{Nothing, Found, Open}
 use Rattle.walk.specs.declared.Reply.{Reply}
@@ -72,12 +75,21 @@ predicatesFrom k (suc left) = k ∷ predicatesFrom (k + 1) left
 abbrev pub walkBy : (ℕ → ℕ → Look) → ℕ → List Visit
 walkBy see n = visitsFrom see (predicatesFrom 0 n) 0 0
 
--- what a visit sees of question j, and the walk that answers it
-abbrev pub sees : List Entry → List Entry → ℕ → ℕ → ℕ → Look
-sees rows questions j known facts = look (truthSet rows questions known facts j)
+-- "a visit whose known facts break one counts and finds nothing. A settled-false visit still goes on if some 51 has its first known yes and its second
+-- unknown" (02, L5): what a visit sees, by how its facts stand to the constraints
+abbrev pub heeding : Standing → Look → Look
+heeding Broken seen = Nothing
+heeding Waiting Nothing = Nothing
+heeding Waiting Found = Open
+heeding Waiting Open = Open
+heeding Kept seen = seen
 
-abbrev pub walk : List Entry → List Entry → ℕ → ℕ → List Visit
-walk rows questions n j = walkBy (sees rows questions j) n
+-- what a visit sees of question j, and the walk that answers it
+abbrev pub sees : List Entry → List Entry → List Entry → ℕ → ℕ → ℕ → Look
+sees constraints rows questions j known facts = heeding (standing constraints known facts) (look (truthSet rows questions known facts j))
+
+abbrev pub walk : List Entry → List Entry → List Entry → ℕ → ℕ → List Visit
+walk constraints rows questions n j = walkBy (sees constraints rows questions j) n
 
 -- "holds, with the count; fails, with the breaking request as a yes mask and the count; unfinished, with the budget as the count."
 -- "Each visit counts one." "Unfinished is given exactly if the whole walk makes more visits than the budget."

@@ -1,15 +1,16 @@
 // The walk that answers a question, with a budget of visits.
+use constraints::Standing;
+use runs::Part;
 use table::Table;
 ghost use mathlib.Core.Path.{_≡_};
 ghost use mathlib.Core.Option.{none};
 ghost use Prim.Native.Nat.{_+_, _-_, _^_, _≤_, _<_};
 ghost use Rattle.table.specs.Steps.{predicateLimit};
-ghost use Rattle.runs.specs.Flat.{entriesIn};
 ghost use Rattle.possible.specs.Sets.{truths as bothTruths, ofMask};
-ghost use Rattle.walk.specs.Walk.{look, foundAt, sees, ended, replyOf};
-ghost use Rattle.walk.specs.Inner.{replyIn, countOf, plusOf, walkFrom, goesOn, Lent};
+ghost use Rattle.walk.specs.Walk.{look, heeding, foundAt, ended, replyOf};
+ghost use Rattle.walk.specs.Inner.{replyIn, boundsIn, seesIn, countOf, plusOf, walkFrom, goesOn, Lent};
 
-// What a visit sees: the question is settled true and nothing breaks it here, it is settled false and a breaking request is found, or neither yet.
+// What a visit sees: nothing breaks the question here, a breaking request is found, or neither yet.
 pub enum Look {
     Nothing,
     Found,
@@ -23,7 +24,7 @@ pub enum Reply {
     Unfinished(u32),
 }
 
-// What a visit sees of a set of truths: one member, or not one alone.
+// What a visit sees of a set of truths: settled true, settled false, or neither yet.
 fn look_of(t: u8) -> Look
     ensures { λ r. ⌜ r ≡ look (ofMask bothTruths t) ⌝ }
 {
@@ -35,7 +36,22 @@ fn look_of(t: u8) -> Look
     }
 }
 
-// Whether visits are made below one: it is not settled, and a predicate is left. At k = n every question is settled (`settled-at-n`).
+// What a visit sees by how its facts stand to the constraints: nothing where they break one; and a visit that found goes on while one waits.
+fn heed(standing: Standing, seen: Look) -> Look
+    ensures { λ r. ⌜ r ≡ heeding standing seen ⌝ }
+{
+    match standing {
+        Standing::Broken => Look::Nothing,
+        Standing::Waiting => match seen {
+            Look::Nothing => Look::Nothing,
+            Look::Found => Look::Open,
+            Look::Open => Look::Open,
+        },
+        Standing::Kept => seen,
+    }
+}
+
+// Whether visits are made below one: it goes on, and a predicate is left. At k = n none goes on (`settled-at-n`).
 fn goes_on(seen: Look, k: u32, n: u32) -> bool
     ensures { λ r. ⌜ r ≡ goesOn seen k n ⌝ }
 {
@@ -48,6 +64,7 @@ fn goes_on(seen: Look, k: u32, n: u32) -> bool
 
 // What a visit sees of a question with predicates 0 to k-1 known and these facts yes.
 fn visit(
+    constraints: &[u8],
     rows: &[u8],
     questions: &[u8],
     sets: &mut [u8],
@@ -57,12 +74,16 @@ fn visit(
     facts: u32,
 ) -> Look
     requires { ⌜ Lent (now rows) (now questions) (now sets) (now truths) question × (k ≤ predicateLimit) ⌝ }
-    ensures { λ r. ⌜ r ≡ sees (entriesIn (now (rows .entry))) (entriesIn (now (questions .entry))) question (2 ^ k - 1) facts ⌝ }
+    ensures { λ r. ⌜ r ≡ seesIn (now (constraints .entry)) (now (rows .entry)) (now (questions .entry)) question (2 ^ k - 1) facts ⌝ }
 {
     let known = (1 << k) - 1;
+    let standing = constraints::met(constraints, known, facts);
+    if let Standing::Broken = standing {
+        return Look::Nothing;
+    }
     possible::fill_sets(rows, known, facts, sets);
     questions::fill_truths(questions, sets, truths);
-    look_of(truths[question])
+    heed(standing, look_of(truths[question]))
 }
 
 // The reply of a visit below which none is made.
@@ -98,6 +119,7 @@ fn plus(r: Reply, made: u32, budget: u32) -> Reply
 
 // The walk from a visit with predicates 0 to k-1 known, of n.
 fn walk_from(
+    constraints: &[u8],
     rows: &[u8],
     questions: &[u8],
     sets: &mut [u8],
@@ -109,12 +131,21 @@ fn walk_from(
     budget: u32,
 ) -> Reply
     requires { ⌜ Lent (now rows) (now questions) (now sets) (now truths) question × (k ≤ n) × (n ≤ predicateLimit) × (facts < 2 ^ k) ⌝ }
-    ensures { λ r. ⌜ r ≡ replyOf budget (walkFrom (sees (entriesIn (now (rows .entry))) (entriesIn (now (questions .entry))) question) n k facts) ⌝ }
+    ensures { λ r. ⌜ r ≡ replyOf budget (walkFrom (seesIn (now (constraints .entry)) (now (rows .entry)) (now (questions .entry)) question) n k facts) ⌝ }
 {
     if budget == 0 {
         return Reply::Unfinished(0);
     }
-    let seen = visit(rows, questions, sets, truths, question, k, facts);
+    let seen = visit(
+        constraints,
+        rows,
+        questions,
+        sets,
+        truths,
+        question,
+        k,
+        facts,
+    );
     let open = goes_on(seen, k, n);
     if !open {
         return settled(seen, facts);
@@ -122,6 +153,7 @@ fn walk_from(
     let no = facts;
     let yes = with_yes(facts, k);
     let first = walk_from(
+        constraints,
         rows,
         questions,
         sets,
@@ -136,6 +168,7 @@ fn walk_from(
         return plus(first, 1, budget);
     };
     let second = walk_from(
+        constraints,
         rows,
         questions,
         sets,
@@ -151,21 +184,25 @@ fn walk_from(
 
 // The verdict on a question of a table, within a budget of visits; nothing is claimed of a question that no table has room for.
 pub fn verdict(t: Table, question: usize, budget: u32) -> Reply
-    ensures { λ r. ⌜ r ≡ replyIn budget (t .rows) (t .questions) (t .predicates) question ⌝ }
+    ensures { λ r. ⌜ r ≡ replyIn budget (boundsIn t) (t .rows) (t .questions) (t .predicates) question ⌝ }
 {
     if Table::QUESTIONS <= question {
         return Reply::Unfinished(budget);
     }
     let end = question + 1;
-    let asked = runs::flat_questions(t, end);
+    let asked = runs::flat(t, Part::Questions, end);
     let questions = &asked[..runs::PER_ENTRY * end];
     let top = questions::top_of(questions, question as u8);
-    let run = runs::flat_rows(t, top);
+    let run = runs::flat(t, Part::Rows, top);
     let rows = &run[..runs::PER_ENTRY * top];
+    let bound = entries::fewer(t.tally.constraints, Table::CONSTRAINTS);
+    let bounds = runs::flat(t, Part::Constraints, bound);
+    let constraints = &bounds[..runs::PER_ENTRY * bound];
     let mut sets = [0u8; Table::ROWS];
     let mut truths = [0u8; Table::QUESTIONS];
-    let n = runs::fewer(t.predicates, Table::PREDICATES) as u32;
+    let n = entries::fewer(t.predicates, Table::PREDICATES) as u32;
     walk_from(
+        constraints,
         rows,
         questions,
         &mut sets[..top],

@@ -16,18 +16,18 @@ returns : tie.Need-returns
 returns c = simp (le-ltb _ _ (c .before .if1 .taken)) (c .only .ensures)
 
 -- the run of the rows up to the one asked for
-run-is : (c : tie.After-flat-rows) →
-    Written (c .before .before .args .t .rows) (c .before .before .args .row + 1) (perEntry * rowLimit) (c .flat-rows .result)
+run-is : (c : tie.After-flat) →
+    Written (c .before .before .args .t .rows) (c .before .before .args .row + 1) (perEntry * rowLimit) (c .flat .result)
 run-is c =
     let end = c .before .before .args .row + 1 in
     let q : min end rowLimit ≡ end = omega (arith, c .before .if1 .left) in
-    rw q at (c .flat-rows .ensures)
+    rw q at (c .flat .ensures)
 
 slice-aggregate-fill-sets : tie.Need-slice-aggregate-fill-sets
 slice-aggregate-fill-sets c =
     let rows = c .before in
     let a = rows .before .before .args in
-    sym (front-length (a .t .rows) (a .row + 1) (perEntry * rowLimit) (rows .flat-rows .result) (run-is rows) (omega (arith, rows .before .if1 .left)))
+    sym (front-length (a .t .rows) (a .row + 1) (perEntry * rowLimit) (rows .flat .result) (run-is rows) (omega (arith, rows .before .if1 .left)))
 
 returns-2 : tie.Need-returns-2
 returns-2 c =

@@ -26,14 +26,14 @@ use Rattle.walk.proofs.+walk_from.{statement}
 use Rattle.walk.proofs.+walk_from.Tie.{close}
 
 -- "n minus k falls at each call"
-abbrev μ-walk-from : Measures 4 walk-from-kinds.ps ℕ
-μ-walk-from κs a = a .1 .1 .1 .1 .1 .0 - a .1 .1 .1 .1 .1 .1 .0
+abbrev μ-walk-from : Measures 5 walk-from-kinds.ps ℕ
+μ-walk-from κs a = a .1 .1 .1 .1 .1 .1 .0 - a .1 .1 .1 .1 .1 .1 .1 .0
 
-abbrev walk-from-at : ℕ → In 4 walk-from-kinds.ps
-walk-from-at t = and 4 walk-from-kinds.ps (is 4 walk-from-kinds.ps μ-walk-from t) walk-from.Pre
+abbrev walk-from-at : ℕ → In 5 walk-from-kinds.ps
+walk-from-at t = and 5 walk-from-kinds.ps (is 5 walk-from-kinds.ps μ-walk-from t) walk-from.Pre
 
-abbrev walk-from-below : ℕ → In 4 walk-from-kinds.ps
-walk-from-below t = and 4 walk-from-kinds.ps (falls 4 walk-from-kinds.ps _<_ μ-walk-from t) walk-from.Pre
+abbrev walk-from-below : ℕ → In 5 walk-from-kinds.ps
+walk-from-below t = and 5 walk-from-kinds.ps (falls 5 walk-from-kinds.ps _<_ μ-walk-from t) walk-from.Pre
 
 -- what the calls ask and promise
 abbrev claims : ℕ → lts.Claims
@@ -80,7 +80,7 @@ module _ (t : ℕ) where
   Second = lts.After-walk-from2 (claims t) (walk-from-at t) walk-from.Post
 
   abbrev start : Paid → Start
-  start c = c .before .before .before .before .before
+  start c = c .before .before .before .before .before .before
 
   abbrev paid : Seen → Paid
   paid c = c .before .before .before
@@ -102,7 +102,7 @@ module _ (t : ℕ) where
 
   -- what a visit of this question sees
   abbrev see : Start → ℕ → ℕ → Look
-  see c = sees (entriesIn (c .args .rows .now)) (entriesIn (c .args .questions .now)) (c .args .question)
+  see c = sees (entriesIn (c .args .constraints .now)) (entriesIn (c .args .rows .now)) (entriesIn (c .args .questions .now)) (c .args .question)
 
   -- an unsettled visit
   open-here : (c : Unsettled) → (see (begun c) (2 ^ (begun c .args .k) - 1) (begun c .args .facts) ≡ Open) × (begun c .args .k < begun c .args .n)
@@ -130,7 +130,7 @@ module _ (t : ℕ) where
   -- the needs, in the order of the code
   returns : lts.Need-returns (claims t) (walk-from-at t) walk-from.Post
   returns c =
-      let begin = c .before .before .before .before .before in
+      let begin = c .before .before .before .before .before .before in
       let a = begin .args in
       no-budget (see begin) (a .n) (a .k) (a .facts) (a .budget) (omega (arith, c .if1 .taken))
 
@@ -159,8 +159,8 @@ module _ (t : ℕ) where
       let look = seen (at .before) .visit in (
         omega (arith, pre .0, less),
         (
-          lent-kept (a .rows .now) (a .questions .now) (a .sets .now) (a .truths .now) (look .last .1 .1 .0) (look .last .1 .1 .1 .0) (a .question)
-              (look .kept .1 .1 .0) (look .kept .1 .1 .1 .0) (pre .1 .0),
+          lent-kept (a .rows .now) (a .questions .now) (a .sets .now) (a .truths .now) (look .last .1 .1 .1 .0) (look .last .1 .1 .1 .1 .0) (a .question)
+              (look .kept .1 .1 .1 .0) (look .kept .1 .1 .1 .1 .0) (pre .1 .0),
           omega (arith, less),
           pre .1 .2,
           omega (arith, power-twice (a .k), pre .1 .3),
@@ -202,8 +202,8 @@ module _ (t : ℕ) where
       let walk = one .walk-from in (
         omega (arith, pre .0, less),
         (
-          lent-kept (a .rows .now) (a .questions .now) (a .sets .now) (a .truths .now) (walk .last .1 .1 .0) (walk .last .1 .1 .1 .0) (a .question)
-              (walk .kept .1 .1 .0 ∙ kept .1 .1 .0) (walk .kept .1 .1 .1 .0 ∙ kept .1 .1 .1 .0) (pre .1 .0),
+          lent-kept (a .rows .now) (a .questions .now) (a .sets .now) (a .truths .now) (walk .last .1 .1 .1 .0) (walk .last .1 .1 .1 .1 .0) (a .question)
+              (walk .kept .1 .1 .1 .0 ∙ kept .1 .1 .1 .0) (walk .kept .1 .1 .1 .1 .0 ∙ kept .1 .1 .1 .1 .0) (pre .1 .0),
           omega (arith, less),
           pre .1 .2,
           yes one .with-yes .ensures .1,

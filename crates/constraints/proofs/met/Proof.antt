@@ -1,0 +1,109 @@
+-- That `met` (src/lib.rt) keeps its promise.
+use mathlib.Core.Path.{_≡_, sym, _∙_}
+use mathlib.Core.Bool.{true, false}
+use mathlib.Core.Logic.{⊎-elim}
+use mathlib.Core.List.{List}
+use Rattle.entries.specs.declared.Entry.{Entry}
+use Prim.Native.Nat.{_-_, _≤_, _<_}
+use native.Mathlib.Omega.{arith}
+use lib.ListN.{length, getD}
+use Rattle.entries.specs.Entries.{blank}
+use Rattle.runs.specs.Flat.{entriesIn}
+use Rattle.runs.proofs.Runs.{entries-count, held-at}
+use Rattle.constraints.specs.Constraints.{brokenBy, waitedBy, standingBy}
+use Rattle.constraints.proofs.Standings.{Looked, none-looked, looked-broken, looked-waiting, looked-kept, looked-all}
+use borrow.Author.Needs.{needs}
+use Rattle.constraints.proofs.met.Statement.{statement}
+use Rattle.constraints.proofs.met.Tie as tie
+
+abbrev Inv-loop : tie.InvT-loop
+Inv-loop run known facts count waits₀ i₀ waits i = (i ≤ count) × Looked (entriesIn run) known facts i waits
+
+abbrev μ-loop : tie.MeasureT-loop
+μ-loop run known facts count waits₀ i₀ waits i = count - i
+
+loop-holds : tie.Need-loop-holds Inv-loop μ-loop
+loop-holds c = let a = c .before .args in (omega arith, none-looked (entriesIn (a .run .now)) (a .known) (a .facts))
+
+-- at a constraint: the loop's head, the constraints, and that this is one of them
+abbrev at-head : tie.After-stands-by Inv-loop μ-loop → tie.At-loop Inv-loop μ-loop
+at-head c = c .before .before .before .before .before .before
+
+abbrev start : tie.At-loop Inv-loop μ-loop → tie.Start Inv-loop μ-loop
+start c = c .before .before
+
+abbrev constraints : tie.At-loop Inv-loop μ-loop → List Entry
+constraints c = entriesIn (start c .args .run .now)
+
+is-there : (c : tie.After-stands-by Inv-loop μ-loop) → at-head c .loop .i < length (constraints (at-head c))
+is-there c = omega (arith, c .before .before .before .before .before .loop-test .taken, entries-count (start (at-head c) .args .run .now))
+
+-- how the facts stand to it
+stands-here : (c : tie.After-stands-by Inv-loop μ-loop) →
+    let a = start (at-head c) .args in
+    let e = getD (constraints (at-head c)) (at-head c .loop .i) blank in
+    c .stands-by .result ≡ standingBy (brokenBy (a .known) (a .facts) e) (waitedBy (a .known) (a .facts) e)
+stands-here c =
+    let run = start (at-head c) .args .run .now in
+    let entry = held-at run (at-head c .loop .i) (omega (arith, c .before .before .before .before .before .loop-test .taken)) in
+    rw (entry, ← c .before .before .before .kind-at .ensures) (c .stands-by .ensures)
+
+returns : tie.Need-returns Inv-loop μ-loop
+returns c =
+    let here = c .before .before in
+    let head = at-head here in
+    let a = start head .args in
+    looked-broken (constraints head) (a .known) (a .facts) (head .loop .i) (is-there here) (sym (stands-here here) ∙ c .enum-told .given .1)
+
+loop-again : tie.Need-loop-again Inv-loop μ-loop
+loop-again c =
+    let here = c .before in
+    let head = at-head here in
+    let a = start head .args in
+    let all = constraints head in
+    let i = head .loop .i in (
+      omega arith,
+      ⊎-elim
+          (λ w. rw (w .2) (looked-waiting all (a .known) (a .facts) i (is-there here) (head .loop .inv .1) (sym (stands-here here) ∙ w .1 .given .1)))
+          (λ w. rw (w .2) (looked-kept all (a .known) (a .facts) i (is-there here) (head .loop .inv .1) (sym (stands-here here) ∙ w .1 .given .1)))
+          (c .match .came),
+    )
+
+returns-2 : tie.Need-returns-2 Inv-loop μ-loop
+returns-2 c =
+    let head = c .before .before in
+    let a = start head .args in
+    looked-all (constraints head) (a .known) (a .facts) (head .loop .i) (head .loop .waits) true
+    (omega (arith, head .loop .inv .0, c .before .loop-test .left, entries-count (a .run .now))) (c .if1 .taken) (head .loop .inv .1)
+
+returns-3 : tie.Need-returns-3 Inv-loop μ-loop
+returns-3 c =
+    let head = c .before .before in
+    let a = start head .args in
+    looked-all (constraints head) (a .known) (a .facts) (head .loop .i) (head .loop .waits) false
+    (omega (arith, head .loop .inv .0, c .before .loop-test .left, entries-count (a .run .now))) (c .if1 .left) (head .loop .inv .1)
+
+pub met-spec : {M : Type 1} → statement M
+met-spec =
+    tie.close
+    (tie.spec
+    Inv-loop
+    μ-loop
+    loop-holds
+    (λ c. search needs)
+    (λ c. search needs)
+    (λ c κs. search needs)
+    (λ c. search needs)
+    (λ c. search needs)
+    (λ c. search needs)
+    (λ c. search needs)
+    (λ c κs. search needs)
+    (λ c. search needs)
+    returns
+    (λ c. search needs)
+    (λ c. search needs)
+    (λ c. search needs)
+    (λ c. search needs)
+    loop-again
+    returns-2
+    returns-3)
