@@ -11,11 +11,13 @@ use borrow.Author.Tests.{leb-false, lt-leb}
 use Rattle.entries.specs.declared.refusals.Refusal.{Refusal}
 use Rattle.entries.specs.Said.{Said, answered, refusing, refusal, andThen, unless}
 use Rattle.entries.proofs.Saying.{not-both}
-use Rattle.table.specs.Contents.{Contents}
+use Rattle.table.specs.Contents.{Contents, predicates}
 use Rattle.table.specs.Reading.{reading}
+use Rattle.table.proofs.Writing.{of-accepted}
 use Rattle.decide.specs.Meaning.{decision}
 use Rattle.possible.specs.Possible.{possible}
 use Rattle.walk.specs.Walk.{replyOf}
+use Rattle.walk.proofs.Answers.{Bounded, bounded}
 use Rattle.pierstride.specs.Masks.{beyond, badMasks}
 use Rattle.pierstride.specs.Services.{askedWrongly, decidedOf, remainingOf, repliedOf, walkOf}
 use Rattle.pierstride.specs.Services.{saysDecide, decideAnswer, saysPossible, possibleAnswer, saysVerdict, verdictAnswer}
@@ -28,6 +30,10 @@ table-of s f v = go (reading s) refl
     go : (x : Said Contents) → reading s ≡ x → andThen x f ≡ answered v → (c : Contents) × (reading s ≡ answered c)
     go (answered c) e q = (c, e)
     go (refusing why) e q = not-both (sym q)
+
+-- n covers the predicates of its constraints and rows
+pub accepted-bounded : (s : List ℕ) (c : Contents) → reading s ≡ answered c → Bounded (c .constraints) (c .rows) (predicates c)
+accepted-bounded s c is = bounded c (of-accepted s c is .0 .constraints-sound)
 
 -- nothing was wrong with what was asked
 asked-well : {A B : Type 0} (shows : Said A → B) (number : B → ℕ) → ((why : Refusal) → number (shows (refusing why)) ≡ why .number) →

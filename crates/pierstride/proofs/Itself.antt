@@ -28,7 +28,7 @@ use Rattle.table.specs.Contents.{Contents, predicates}
 use Rattle.table.specs.Steps.{tally}
 use Rattle.table.specs.Whole.{named}
 use Rattle.table.specs.Reading.{reading}
-use Rattle.table.proofs.Laws.{covered, question-sound}
+use Rattle.table.proofs.Laws.{question-sound}
 use Rattle.decide.specs.Meaning.{bit}
 use Rattle.possible.specs.Sets.{decisions, imageOne, mask, ofMask}
 use Rattle.possible.specs.Twice.{possibleTwice}
@@ -41,7 +41,7 @@ use Rattle.walk.proofs.Itself.{itself-holds as itself-walked, both-walked}
 use Rattle.walk.proofs.Twice.{no-longer}
 use Rattle.pierstride.specs.Services.{unfinished, repliedOf, possibleAnswer, verdictAnswer}
 use Rattle.pierstride.specs.Demands.{needed, neededTwice}
-use Rattle.pierstride.proofs.Answered.{replies}
+use Rattle.pierstride.proofs.Answered.{accepted-bounded, replies}
 use Rattle.pierstride.proofs.ThirdDemand.{unfinished-means, verdict-counts, possible-by-rule, set-has}
 
 module _ (s : List ℕ) (c : Contents) (is : reading s ≡ answered c) where
@@ -65,18 +65,19 @@ module _ (s : List ℕ) (c : Contents) (is : reading s ≡ answered c) where
   pub itself-holds : (q b : ℕ) (o : Order) → asQuestion (question q .kind) ≡ Compare o → question q .a ≡ question q .b →
       q < length (c .questions) → 0 < b → verdictAnswer s q b ≡ repliedOf (Holds 1)
   itself-holds q b o k same there enough =
-      replies s c is q b there ∙ ap repliedOf (itself-walked (c .rows) (c .questions) (predicates c) q o k same b enough)
+      replies s c is q b there ∙ ap repliedOf (itself-walked (c .constraints) (c .rows) (c .questions) (predicates c) q o k same b enough)
 
   -- both of a question and itself gets that question's verdict, request and count
   pub both-itself : (q b : ℕ) → asQuestion (question q .kind) ≡ Both → question q .a ≡ question q .b → q < length (c .questions) →
       verdictAnswer s q b ≡ verdictAnswer s (question q .b) b
   both-itself q b k same there =
       let sound = question-sound s c is q there in
-      let names = subst (λ (kind : Kind). named (record { kind = kind; a = question q .a; b = question q .b }) (tally (length (c .rows)) q) ≡ true)
+      let before = tally (length (c .constraints)) (length (c .rows)) q in
+      let names = subst (λ (kind : Kind). named (record { kind = kind; a = question q .a; b = question q .b }) before ≡ true)
       (is-question (question q .kind) (sound .in-part) ∙ ap Question k) (sound .names) in
       let lower = ltb-true (question q .b) q (both-parts (ltb (question q .a) q) (ltb (question q .b) q) names .1) in
       replies s c is q b there
-      ∙ ap (λ (vs : List Visit). repliedOf (replyOf b vs)) (both-walked (c .rows) (c .questions) (predicates c) q k same lower)
+      ∙ ap (λ (vs : List Visit). repliedOf (replyOf b vs)) (both-walked (c .constraints) (c .rows) (c .questions) (predicates c) q k same lower)
       ∙ sym (replies s c is (question q .b) b (omega arith))
 
   -- "Sets may shrink": each decision that is shown was shown by 01's own choice
@@ -88,7 +89,7 @@ module _ (s : List ℕ) (c : Contents) (is : reading s ≡ answered c) where
   -- "and walks get shorter": no verdict takes more visits than it did, and a budget that was enough still is
   module _ (q b : ℕ) (there : q < length (c .questions)) where
     fewer : needed c q ≤ neededTwice c q
-    fewer = no-longer (c .rows) (c .questions) (predicates c) (covered c) q
+    fewer = no-longer (c .constraints) (c .rows) (c .questions) (predicates c) (accepted-bounded s c is) q
 
     pub count-no-larger : (verdictAnswer s q b .reply ≡ unfinished → ⊥) → verdictAnswer s q b .visits ≤ neededTwice c q
     count-no-larger enough = omega (arith, verdict-counts s c is q b there enough, fewer)

@@ -6,6 +6,7 @@ use Prim.Native.Nat.{ℕ, zero, suc, _+_, _<_}
 use native.Mathlib.Omega.{arith}
 use native.Mathlib.Numerals.{add-one}
 use Rattle.belnap.specs.Orders.{onlyIf}
+use Rattle.belnap.proofs.Finite.{and-false}
 use Rattle.entries.proofs.Numbers.{by-order}
 use Rattle.decide.specs.Meaning.{bit}
 use Rattle.pierstride.specs.Masks.{knownBelow}
@@ -20,10 +21,6 @@ known-yes : (y k : Bool) → (y && not k) ≡ false → onlyIf y k ≡ true
 known-yes true true e = refl
 known-yes true false e = sym e
 known-yes false k e = refl
-
-and-false : (a : Bool) → (a && false) ≡ false
-and-false true = refl
-and-false false = refl
 
 module _ (known request : ℕ) where
   pub known-more : (i : ℕ) → knownBelow i known request ≡ true → (bit request i && not (bit known i)) ≡ false →

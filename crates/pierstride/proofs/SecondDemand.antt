@@ -1,14 +1,15 @@
 -- The letter's second demand, of the services' answers: a row decides by its kind's rule, and by the predicates that it reaches alone; a question holds
--- exactly if no request breaks it, and else the first request that does is shown; what striking wrote, given to the services again, brings the old answers
--- under the new numbers.
+-- exactly if no request within the constraints breaks it, and else the first of them that does is shown; what striking wrote, given to the services again,
+-- brings the old answers under the new numbers.
 -- Assumes nothing.
 use mathlib.Core.Path.{_≡_, refl, sym, ap, _∙_}
 use mathlib.Core.Bool.{true}
-use mathlib.Core.List.{List}
+use mathlib.Core.List.{List, [], _++_}
 use mathlib.Core.Option.{Option, none, some}
 use Prim.Native.Nat.{ℕ, suc, _+_, _-_, _^_, _≤_, _<_}
 use native.Mathlib.Omega.{arith}
 use lib.ListN.{length, getD, take, drop}
+use lib.Seq.{take-append-seam}
 use lib.Dec.{leb}
 use borrow.Author.Tests.{lt-leb, le-leb}
 use Rattle.belnap.specs.declared.Decision.{Decision}
@@ -16,15 +17,15 @@ use Rattle.belnap.specs.declared.Decision.the-variants.{U}
 use Rattle.belnap.specs.Decisions.{code, coded}
 use Rattle.belnap.proofs.Codes.{coded-code}
 use Rattle.belnap.proofs.Finite.{never}
+use Rattle.entries.specs.declared.Entry.{Entry}
 use Rattle.entries.specs.Said.{answered}
 use Rattle.kinds.specs.Kinds.{asRow}
 use Rattle.entries.specs.Entries.{blank}
-use Rattle.table.specs.Contents.{Contents, predicates}
+use Rattle.table.specs.Contents.{Contents, predicates, others, written}
 use Rattle.table.specs.Reading.{reading}
 use Rattle.entries.proofs.Numbers.{by-order}
-use Rattle.table.proofs.Laws.{covered}
 use Rattle.table.specs.Whole.{Whole}
-use Rattle.table.proofs.Writing.{of-accepted}
+use Rattle.table.proofs.Writing.{written-append, of-accepted}
 use Rattle.decide.specs.Meaning.{decideBy, decides as decides-by}
 use Rattle.decide.specs.Reach.{reaches}
 use Rattle.decide.specs.Requests.{Agree}
@@ -33,9 +34,11 @@ use Rattle.decide.proofs.Rules.{by-answers}
 use Rattle.decide.proofs.Renaming.{decisions-come}
 use Rattle.walk.specs.declared.Reply.the-variants.{Holds, Fails, Unfinished}
 use Rattle.walk.specs.Order.{comesBefore}
-use Rattle.walk.specs.Walk.{Visit, found, ended, replyOf}
+use Rattle.walk.specs.Walk.{Visit, found, walk, ended, replyOf}
+use Rattle.walk.specs.Plain.{walkPlainly}
+use Rattle.walk.proofs.Plain.{unconstrained}
 use Rattle.walk.proofs.Replies.{reply-within, reply-beyond}
-use Rattle.walk.proofs.Answers.{nothing-holds, breaking-first}
+use Rattle.walk.proofs.Answers.{Bounded, nothing-holds, breaking-first}
 use Rattle.strike.specs.Strike.{lower, struck, struckAnswer}
 use Rattle.strike.proofs.Renumbering.{lower-above, lower-below}
 use Rattle.strike.proofs.Laws.{struck-rows, struck-questions}
@@ -46,8 +49,8 @@ use Rattle.pierstride.specs.declared.Verdict.{Verdict}
 use Rattle.pierstride.specs.Services.{holding, failing, unfinished, decidedOf, repliedOf, walkOf}
 use Rattle.pierstride.specs.Services.{readAnswer, saysDecide, decideAnswer, saysPossible}
 use Rattle.pierstride.specs.Services.{possibleAnswer, saysVerdict, verdictAnswer, strikeAnswer, strikeOutput}
-use Rattle.pierstride.specs.Demands.{Breaks}
-use Rattle.pierstride.proofs.Answered.{decided, decides, replies}
+use Rattle.pierstride.specs.Demands.{Breaks, Within}
+use Rattle.pierstride.proofs.Answered.{accepted-bounded, decided, decides, replies}
 use Rattle.pierstride.proofs.FirstDemand.{strike-tells}
 
 -- "Decisions are those of PBel as 01 condenses it": a row's code is that of its kind's rule, over what the same call answers for the rows that it names
@@ -82,7 +85,8 @@ by-reply {P} b vs v e f g h =
 pub unlike : {P : Type 0} (v w : Verdict) (k : ℕ) → v ≡ w → v .reply ≡ k → (w .reply ≡ k → ⊥) → P
 unlike v w k q e h = absurd (h (sym (ap (λ (v : Verdict). v .reply) q) ∙ e))
 
--- "A question holds exactly if no request breaks it; otherwise, budget permitting, you show the first request that does, in 01's order."
+-- "A question holds exactly if no request breaks it; otherwise, budget permitting, you show the first request that does, in 01's order"; of the requests
+-- within the constraints (02, L5).
 module _ (s : List ℕ) (c : Contents) (is : reading s ≡ answered c) (q b : ℕ) (there : q < length (c .questions)) where
   abbrev answer : Verdict
   answer = verdictAnswer s q b
@@ -90,37 +94,50 @@ module _ (s : List ℕ) (c : Contents) (is : reading s ≡ answered c) (q b : �
   abbrev n : ℕ
   n = predicates c
 
-  pub holds-means : answer .reply ≡ holding → (o : ℕ) → Breaks c q o → ⊥
-  holds-means e o broken =
+  covers : Bounded (c .constraints) (c .rows) n
+  covers = accepted-bounded s c is
+
+  holds-at : found (walkOf c q) ≡ none → (o : ℕ) → Within c o → Breaks c q o → ⊥
+  holds-at w o within broken = never (sym (nothing-holds (c .constraints) (c .rows) (c .questions) n covers q w o within) ∙ broken)
+
+  pub holds-means : answer .reply ≡ holding → (o : ℕ) → Within c o → Breaks c q o → ⊥
+  holds-means e =
       by-reply b (walkOf c q) answer (replies s c is q b there)
-      (λ w l v. never (sym (nothing-holds (c .rows) (c .questions) n (covered c) q w o) ∙ broken))
+      (λ w l v. holds-at w)
       (λ m w l v. unlike answer _ holding v e (λ z. omega arith))
       (λ l v. unlike answer _ holding v e (λ z. omega arith))
 
-  pub holds-if : (answer .reply ≡ unfinished → ⊥) → ((o : ℕ) → o < 2 ^ n → Breaks c q o → ⊥) → answer .reply ≡ holding
+  pub holds-if : (answer .reply ≡ unfinished → ⊥) → ((o : ℕ) → o < 2 ^ n → Within c o → Breaks c q o → ⊥) → answer .reply ≡ holding
   holds-if enough kept =
       by-reply b (walkOf c q) answer (replies s c is q b there)
       (λ w l v. ap (λ (v : Verdict). v .reply) v)
-      (λ m w l v. let f = breaking-first (c .rows) (c .questions) n (covered c) q m w in absurd (kept m (f .1) (f .0)))
+      (λ m w l v. let f = breaking-first (c .constraints) (c .rows) (c .questions) n covers q m w in absurd (kept m (f .2) (f .0) (f .1)))
       (λ l v. absurd (enough (ap (λ (v : Verdict). v .reply) v)))
 
   pub fails-means : answer .reply ≡ failing →
-      Breaks c q (answer .request) × (answer .request < 2 ^ n)
-      × ((more o : ℕ) → comesBefore (n + more) o (answer .request) ≡ true → Breaks c q o → ⊥)
+      Within c (answer .request) × Breaks c q (answer .request) × (answer .request < 2 ^ n)
+      × ((more o : ℕ) → comesBefore (n + more) o (answer .request) ≡ true → Within c o → Breaks c q o → ⊥)
   fails-means e =
       by-reply b (walkOf c q) answer (replies s c is q b there)
       (λ w l v. unlike answer _ failing v e (λ z. omega arith))
       (λ m w l v.
-      let f = breaking-first (c .rows) (c .questions) n (covered c) q m w in
-      rw (ap (λ (v : Verdict). v .request) v) (f .0, f .1, λ more o h broken. never (sym (f .2 more o h) ∙ broken)))
+      let f = breaking-first (c .constraints) (c .rows) (c .questions) n covers q m w in
+      rw (ap (λ (v : Verdict). v .request) v) (f .0, f .1, f .2, λ more o h within broken. never (sym (f .3 more o h within) ∙ broken)))
       (λ l v. unlike answer _ failing v e (λ z. omega arith))
 
-  pub fails-if : (answer .reply ≡ unfinished → ⊥) → (o : ℕ) → Breaks c q o → answer .reply ≡ failing
-  fails-if enough o broken =
+  pub fails-if : (answer .reply ≡ unfinished → ⊥) → (o : ℕ) → Within c o → Breaks c q o → answer .reply ≡ failing
+  fails-if enough o within broken =
       by-reply b (walkOf c q) answer (replies s c is q b there)
-      (λ w l v. never (sym (nothing-holds (c .rows) (c .questions) n (covered c) q w o) ∙ broken))
+      (λ w l v. absurd (holds-at w o within broken))
       (λ m w l v. ap (λ (v : Verdict). v .reply) v)
       (λ l v. absurd (enough (ap (λ (v : Verdict). v .reply) v)))
+
+  -- where a table has no constraint, the verdict is that of 01's own walk
+  pub unconstrained-verdict : c .constraints ≡ [] → answer ≡ repliedOf (replyOf b (walkPlainly (c .rows) (c .questions) n q))
+  unconstrained-verdict empty =
+      replies s c is q b there
+      ∙ ap (λ (constraints : List Entry). repliedOf (replyOf b (walk constraints (c .rows) (c .questions) n q))) empty
+      ∙ ap (λ (vs : List Visit). repliedOf (replyOf b vs)) (unconstrained (c .rows) (c .questions) n q)
 
 -- a row other than the struck one is there under its new number exactly if it was there
 module _ (c : Contents) (r : ℕ) (there : r < length (c .rows)) where
@@ -169,6 +186,20 @@ module _ (s out : List ℕ) (r : ℕ) (done : strikeAnswer s r out .refusal ≡ 
   pub strike-keeps-verdicts : (j budget : ℕ) → verdictAnswer new j budget ≡ verdictAnswer s j budget
   unfolding saysVerdict
   strike-keeps-verdicts j budget = rw (new-read, of .is, struck-questions r (of .contents), verdict-kept (of .contents) r whole (of .unnamed) j budget)
+
+  -- the bytes are accepted, and hold the table without that row
+  pub strike-accepted : (c : Contents) → reading s ≡ answered c → reading new ≡ answered (struck r c)
+  strike-accepted c p = let was : of .contents ≡ c = cc (sym (of .is) ∙ p) in rw was at new-read
+
+  -- "striking keeps them" (02, L5), the constraints: the new bytes begin with theirs, as the old ones do
+  pub strike-keeps-constraints : (c : Contents) → reading s ≡ answered c →
+      let front = length (written (c .constraints)) in (struck r c .constraints ≡ c .constraints) × (take front new ≡ take front s)
+  strike-keeps-constraints c p =
+      let front = written (c .constraints) in
+      let begins : (t : List ℕ) (e : Contents) → reading t ≡ answered e → e .constraints ≡ c .constraints → take (length front) t ≡ front =
+      λ t e is same. ap (take (length front)) (sym (of-accepted t e is .1) ∙ written-append (e .constraints) (others e)
+      ∙ ap (λ (es : List Entry). written es ++ written (others e)) same) ∙ take-append-seam front (written (others e)) in
+      (refl, begins new (struck r c) (strike-accepted c p) refl ∙ sym (begins s c p refl))
 
   -- one row fewer, and every question
   pub strike-counts : (readAnswer s .rows ≡ suc (readAnswer new .rows)) × (readAnswer new .questions ≡ readAnswer s .questions)

@@ -16,21 +16,22 @@ use Rattle.table.specs.declared.Reading.{Reading}
 use Rattle.entries.specs.Refusals.{notThere}
 use Rattle.entries.specs.Said.{Said, answered, refusing, refusal, andThen, unless}
 use Rattle.entries.specs.Entries.{blank}
-use Rattle.table.specs.Steps.{predicateLimit, rowLimit, questionLimit}
+use Rattle.table.specs.Steps.{predicateLimit, rowLimit, questionLimit, constraintLimit}
 use Rattle.table.specs.Contents.{Contents, predicates}
-use Rattle.table.specs.Reading.{reading, tableOf}
+use Rattle.table.specs.Reading.{padded, reading, tableOf, upTo}
 use Rattle.entries.proofs.Numbers.{by-order}
 use Rattle.entries.proofs.Saying.{unless-none, unless-some}
 use Rattle.table.proofs.Laws.{limits}
 use Rattle.table.proofs.Opening.{Opened}
 use Rattle.table.proofs.Padding.{padded-at}
+use Rattle.table.proofs.Held.{upTo-padded}
 use Rattle.decide.specs.Meaning.{decides, decision, decisionIn}
 use Rattle.decide.proofs.RowByRow.{same-value}
 use Rattle.possible.specs.Sets.{decisions, single, mask}
 use Rattle.possible.specs.Possible.{setOf, possible, possibleIn}
 use Rattle.walk.specs.declared.Reply.{Reply}
 use Rattle.walk.specs.Walk.{replyOf}
-use Rattle.walk.specs.Inner.{replyIn}
+use Rattle.walk.specs.Inner.{replyIn, boundsIn}
 use Rattle.walk.proofs.Sights.{same-walk}
 use Rattle.pierstride.specs.declared.Counts.{Counts}
 use Rattle.pierstride.specs.declared.Remaining.{Remaining}
@@ -68,6 +69,13 @@ module _ {s : List ℕ} {got : Reading} (o : Opened s got) where
   questions-at : (i : ℕ) → getD (got .table .questions) i blank ≡ getD (o .contents .questions) i blank
   unfolding tableOf
   questions-at i = ap (λ (t : Table). getD (t .questions) i blank) (o .table) ∙ padded-at blank questionLimit (o .contents .questions) i
+
+  bounds-are : boundsIn (got .table) ≡ o .contents .constraints
+  unfolding tableOf
+  bounds-are =
+      let constraints = o .contents .constraints in
+      let all : min (length constraints) constraintLimit ≡ length constraints = omega (arith, o .whole .constraints-fit) in
+      ap boundsIn (o .table) ∙ ap (upTo (padded blank constraintLimit constraints)) all ∙ upTo-padded constraintLimit constraints
 
   -- what each service answers of it
   pub counts-answer :
@@ -133,17 +141,18 @@ module _ {s : List ℕ} {got : Reading} (o : Opened s got) where
     verdict-fits : why ≡ 0 → (at < questionLimit) × (got .table .predicates ≤ predicateLimit)
     verdict-fits e =
         let l = asked-there (got .table .tally .questions) at false (sym w ∙ e) in
-        (omega (arith, l, asked-is, o .whole .questions-fit), rw predicates-is (limits s (o .contents) (o .is) .3))
+        (omega (arith, l, asked-is, o .whole .questions-fit), rw predicates-is (limits s (o .contents) (o .is) .4))
 
-    pub verdict-answers : why ≡ 0 → (p : Reply) → p ≡ replyIn budget (got .table .rows) (got .table .questions) (got .table .predicates) at →
+    pub verdict-answers : why ≡ 0 → (p : Reply) →
+        p ≡ replyIn budget (boundsIn (got .table)) (got .table .rows) (got .table .questions) (got .table .predicates) at →
         repliedOf p ≡ verdictAnswer s at budget
     verdict-answers e p q =
         let t = got .table in
         let c = o .contents in
-        let same = same-walk (t .rows) (c .rows) (t .questions) (c .questions) rows-at questions-at (predicates c) at in
+        let same = same-walk (c .constraints) (t .rows) (c .rows) (t .questions) (c .questions) rows-at questions-at (predicates c) at in
         let fits = verdict-fits e in
         let n : min (t .predicates) predicateLimit ≡ predicates c = omega (arith, predicates-is, fits .1) in
-        let d : p ≡ walked = q ∙ rw (lt-ltb at questionLimit (fits .0), n) (ap (replyOf budget) same) in
+        let d : p ≡ walked = q ∙ rw (lt-ltb at questionLimit (fits .0), n, bounds-are) (ap (replyOf budget) same) in
         rw d (sym (ap verdictOf (verdict-said ∙ unless-none why _ e)))
 
 -- what a call that writes says, as numbers

@@ -99,7 +99,7 @@ module _ (s : List ℕ) (c : Contents) (is : reading s ≡ answered c) (q b : �
       let n = predicates c in
       let m : readAnswer s .predicates ≡ n = rw is in
       let few : 2 ^ suc n - 1 ≤ b = rw (m, add-one n) at l in
-      omega (arith, walk-bound (sees (c .rows) (c .questions) q) n, unfinished-means e .0, few)
+      omega (arith, walk-bound (sees (c .constraints) (c .rows) (c .questions) q) n, unfinished-means e .0, few)
 
 -- a row's set is that of its kind's rule, over the sets that the same call answers for the rows that it names
 pub possible-by-rule : (s : List ℕ) (c : Contents) → reading s ≡ answered c → (r known request : ℕ) →

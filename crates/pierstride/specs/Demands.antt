@@ -9,6 +9,7 @@ use Rattle.entries.specs.Refusals.{notThere, stillNamed, badMask, outputTooShor
 use Rattle.entries.specs.Said.{Said, answered, refusing, refusal}
 use Rattle.table.specs.Contents.{Contents, predicates}
 use Rattle.table.specs.Places.{Speaks}
+use Rattle.constraints.specs.Constraints.{within}
 use Rattle.questions.specs.Questions.{truth}
 use Rattle.walk.specs.Twice.{walkTwice}
 use Rattle.pierstride.specs.declared.Written.{Written}
@@ -44,13 +45,17 @@ pub record Tells {A : Type 0} (due : ℕ → ℕ → Type 0) (said : Said A) (nu
 abbrev pub Breaks : Contents → ℕ → ℕ → Type 0
 Breaks c q o = truth (c .rows) (c .questions) o q ≡ false
 
--- how many visits "01's walk needs"
+-- "Demand 2 then speaks of requests within these entries" (02, L5)
+abbrev pub Within : Contents → ℕ → Type 0
+Within c o = within (c .constraints) o ≡ true
+
+-- how many visits "01's walk needs"; "demand 3 of the new walk"
 abbrev pub needed : Contents → ℕ → ℕ
 needed c q = length (walkOf c q)
 
 -- and how many it needed by 01's own choice, twice from one row
 abbrev pub neededTwice : Contents → ℕ → ℕ
-neededTwice c q = length (walkTwice (c .rows) (c .questions) (predicates c) q)
+neededTwice c q = length (walkTwice (c .constraints) (c .rows) (c .questions) (predicates c) q)
 
 -- a call that wrote these bytes: it answers how many, they stand at the front of the output, and what was behind stays
 pub record Wrote (bytes out : List ℕ) (answer : Written) (left : List ℕ) : Type 0 where

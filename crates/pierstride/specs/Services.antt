@@ -87,9 +87,9 @@ abbrev pub verdictOf : Said Reply → Verdict
 verdictOf (answered reply) = repliedOf reply
 verdictOf (refusing why) = record { refusal = why .number; place = why .place; reply = 0; request = 0; visits = 0 }
 
--- the visits of 01's walk for a question of a table
+-- the visits of the walk for a question of a table
 abbrev pub walkOf : Contents → ℕ → List Visit
-walkOf c q = walk (c .rows) (c .questions) (predicates c) q
+walkOf c q = walk (c .constraints) (c .rows) (c .questions) (predicates c) q
 
 unfoldable pub saysVerdict : List ℕ → ℕ → ℕ → Said Reply
 saysVerdict s q budget =

@@ -5,7 +5,7 @@ use mathlib.Core.Bool.{Bool, true, false}
 use mathlib.Core.List.{List, _++_}
 use Prim.Native.Nat.{ℕ, _+_, _≤_, _<_}
 use native.Mathlib.Omega.{arith}
-use lib.ListN.{length, getD, drop}
+use lib.ListN.{length, getD, drop, length-append}
 use lib.Dec.{ltb}
 use borrow.Author.Tests.{ltb-true, lt-ltb, le-ltb, le-leb, lt-leb}
 use Rattle.entries.specs.declared.refusals.Refusal.{Refusal}
@@ -14,16 +14,16 @@ use Rattle.table.specs.declared.Reading.{Reading}
 use Rattle.entries.specs.Refusals.{notThere, stillNamed, outputTooShort}
 use Rattle.entries.specs.Said.{Said, answered, refusing, refusal}
 use Rattle.entries.specs.Entries.{blank, sizeOf}
-use Rattle.table.specs.Contents.{Contents, written, encoded}
+use Rattle.table.specs.Contents.{Contents, others, written, encoded}
 use Rattle.table.specs.Reading.{reading, tableOf, contentsIn, Fits}
-use Rattle.table.proofs.Writing.{of-accepted}
+use Rattle.table.proofs.Writing.{written-append, of-accepted}
 use Rattle.table.proofs.Opening.{Opened}
-use Rattle.strike.specs.Strike.{struckBytes, missing, inUse, tooShort, strikeRefusal, struckAnswer, outputBy, struckOutput}
+use Rattle.strike.specs.Strike.{closedUp, struckBytes, missing, inUse, tooShort, strikeRefusal, struckAnswer, outputBy, struckOutput}
 use Rattle.strike.proofs.Closing.{closed-bytes}
 use Rattle.strike.proofs.Laws.{output-of}
 use Rattle.entries.specs.Output.{shownOutput}
-use Rattle.table.proofs.Held.{table-fits, contents-back, held, held-length, held-row}
-use Rattle.strike.proofs.Filling.{struck-held}
+use Rattle.table.proofs.Held.{table-fits, contents-back, others-length, other-row}
+use Rattle.strike.proofs.Filling.{struck-left}
 
 -- an answer and an output, as the promise has them
 abbrev pub Answers : List ℕ → ℕ → List ℕ → Said ℕ → List ℕ → Type 0
@@ -50,7 +50,7 @@ module _ {s : List ℕ} {got : Reading} (o : Opened s got) where
   open-fits = rw (o .table) (table-fits (o .contents) (o .whole))
 
   open-contents : contentsIn (got .table) ≡ o .contents
-  open-contents = ap contentsIn (o .table) ∙ contents-back (o .contents) (o .whole)
+  open-contents = ap contentsIn (o .table) ∙ contents-back (o .contents)
 
   open-used : got .table .tally .rows ≡ length (o .contents .rows)
   unfolding tableOf
@@ -77,10 +77,22 @@ module _ {s : List ℕ} {got : Reading} (o : Opened s got) where
     pub bytes-left : sizeOf (getD (got .table .rows) r blank) + length (struckBytes r (contentsIn (got .table))) ≡ length s
     bytes-left =
         let t = got .table in
-        let all : length (written (held t)) ≡ length s =
-        ap (λ (c : Contents). length (encoded c)) open-contents ∙ ap length (of-accepted s (o .contents) (o .is) .1) in
-        let own : sizeOf (getD (held t) r blank) ≡ sizeOf (getD (t .rows) r blank) = ap sizeOf (held-row open-fits r h) in
-        omega (arith, all, own, ap length (struck-held open-fits r h), closed-bytes r (held t) (omega (arith, held-length open-fits)))
+        let constraints = written (contentsIn t .constraints) in
+        let rest = others (contentsIn t) in
+        let all : length (constraints ++ written rest) ≡ length s =
+        ap length (sym (written-append (contentsIn t .constraints) rest))
+        ∙ ap (λ (c : Contents). length (encoded c)) open-contents ∙ ap length (of-accepted s (o .contents) (o .is) .1) in
+        let own : sizeOf (getD rest r blank) ≡ sizeOf (getD (t .rows) r blank) = ap sizeOf (other-row t r h) in
+        let written-left = ap length (struck-left t r h ∙ written-append (contentsIn t .constraints) (closedUp r rest)) in
+        omega (
+          arith,
+          all,
+          own,
+          length-append constraints (written rest),
+          written-left,
+          length-append constraints (written (closedUp r rest)),
+          closed-bytes r rest (omega (arith, others-length t)),
+        )
 
     module _ (out : List ℕ) where
       pub named-answers : inUse r (contentsIn (got .table)) ≡ true → Answers s r out (refusing (refusal stillNamed 0)) out

@@ -2,15 +2,13 @@
 -- Assumes nothing.
 use mathlib.Core.Path.{_≡_, refl, sym, ap, ap₂, _∙_}
 use mathlib.Core.Bool.{Bool, true, false, _&&_, _||_}
-use mathlib.Core.List.{List, [], _∷_, _++_, map}
+use mathlib.Core.List.{List, [], _∷_, map}
 use Prim.Native.Nat.{ℕ, zero, suc, _+_, _≤_, _<_, max}
 use native.Mathlib.Omega.{arith}
-use native.Mathlib.Numerals.{add-one}
-use lib.ListN.{length, getD, take, length-append, length-map, List·getD-map}
-use lib.Seq.{take-suc}
+use lib.ListN.{length, getD, length-append, length-map, List·getD-map}
 use lib.Dec.{eqb}
 use borrow.Author.Tests.{eqb-false, ne-eqb}
-use Rattle.belnap.proofs.Finite.{never, or-left, or-right, neither}
+use Rattle.belnap.proofs.Finite.{never, neither}
 use Rattle.kinds.specs.declared.Kind.{Kind}
 use Rattle.entries.specs.declared.Entry.{Entry}
 use Rattle.table.specs.declared.steps.Tally.{Tally}
@@ -20,7 +18,7 @@ use Rattle.table.specs.Contents.{highest, written}
 use Rattle.entries.specs.Renaming.{namesRow}
 use Rattle.table.proofs.Writing.{Sound}
 use Rattle.table.proofs.Renaming.{renamed-size, renamed-uses, renamed-sound, first-below, second-below}
-use Rattle.strike.specs.Strike.{lower, old, lowered, without, closedUp, names, namedBy}
+use Rattle.strike.specs.Strike.{lower, old, lowered, without, closedUp, names}
 use Rattle.strike.proofs.Renumbering.{without-at, length-without}
 
 -- an entry that does not name r names other rows
@@ -39,10 +37,10 @@ module _ (r : ℕ) (e : Entry) (n : names r e ≡ false) where
   second-other t = eqb-false (e .b) r (other-by (namesRow 1 e) (eqb (e .b) r) (parts .1) t)
 
   -- it keeps the rules where those rows do under their new numbers
-  pub lowered-sound : (part : Kind → Bool) (rows fewer questions : ℕ) → ((x : ℕ) → x < rows → (x ≡ r → ⊥) → lower r x < fewer) →
-      Sound part (tally rows questions) e → Sound part (tally fewer questions) (lowered r e)
-  lowered-sound part rows fewer questions below =
-      renamed-sound (lower r) part (tally rows questions) (tally fewer questions) refl e
+  pub lowered-sound : (part : Kind → Bool) (constraints rows fewer questions : ℕ) → ((x : ℕ) → x < rows → (x ≡ r → ⊥) → lower r x < fewer) →
+      Sound part (tally constraints rows questions) e → Sound part (tally constraints fewer questions) (lowered r e)
+  lowered-sound part constraints rows fewer questions below =
+      renamed-sound (lower r) part (tally constraints rows questions) (tally constraints fewer questions) refl e
       (λ t l. below (e .a) l (first-other t))
       (λ t l. below (e .b) l (second-other t))
 
@@ -89,39 +87,6 @@ without-highest (suc r) (e ∷ es) = let h = without-highest r es in omega arith
 
 pub closed-highest : (r : ℕ) (es : List Entry) → highest (closedUp r es) ≤ highest es
 closed-highest r es = omega (arith, lowered-highest r (without r es), without-highest r es)
-
--- where no entry of a list names r, none at a place does; where one does, the list does
-pub named-none : (r : ℕ) (es : List Entry) → namedBy r es ≡ false → (i : ℕ) → names r (getD es i blank) ≡ false
-unfolding namedBy
-named-none r [] h i = refl
-named-none r (e ∷ es) h zero = neither (names r e) (namedBy r es) h .0
-named-none r (e ∷ es) h (suc i) = named-none r es (neither (names r e) (namedBy r es) h .1) i
-
-pub named-some : (r : ℕ) (es : List Entry) (i : ℕ) → i < length es → names r (getD es i blank) ≡ true → namedBy r es ≡ true
-unfolding namedBy
-named-some r [] i l h = absurd (omega arith)
-named-some r (e ∷ es) zero l h = or-left (names r e) (namedBy r es) h
-named-some r (e ∷ es) (suc i) l h = or-right (names r e) (namedBy r es) (named-some r es i (omega arith) h)
-
-pub named-append : (r : ℕ) (es fs : List Entry) → namedBy r es ≡ false → namedBy r (es ++ fs) ≡ namedBy r fs
-unfolding namedBy
-named-append r [] fs h = refl
-named-append r (e ∷ es) fs h =
-    let n = neither (names r e) (namedBy r es) h in
-    ap (λ (p : Bool). p || namedBy r (es ++ fs)) (n .0) ∙ named-append r es fs (n .1)
-
--- none of the first i + 1 does if none of the first i does, nor the next
-pub named-more : (r : ℕ) (es : List Entry) (i : ℕ) → i < length es → namedBy r (take i es) ≡ false → names r (getD es i blank) ≡ false →
-    namedBy r (take (i + 1) es) ≡ false
-unfolding namedBy
-named-more r es i l h n =
-    let q : take (i + 1) es ≡ take i es ++ (getD es i blank ∷ []) = ap (λ (k : ℕ). take k es) (add-one i) ∙ take-suc es i blank l in
-    ap (namedBy r) q ∙ named-append r (take i es) (getD es i blank ∷ []) h ∙ ap (λ (p : Bool). p || false) n
-
-pub named-nowhere : (r : ℕ) (es : List Entry) → ((i : ℕ) → i < length es → names r (getD es i blank) ≡ false) → namedBy r es ≡ false
-unfolding namedBy
-named-nowhere r [] h = refl
-named-nowhere r (e ∷ es) h = ap₂ _||_ (h 0 (omega arith)) (named-nowhere r es (λ i l. h (suc i) (omega arith)))
 
 -- an entry names no row from those on that it may not name
 pub unnamed-above : {part : Kind → Bool} (before : Tally) (r : ℕ) → before .rows ≤ r → (e : Entry) → Sound part before e → names r e ≡ false

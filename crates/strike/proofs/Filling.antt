@@ -7,43 +7,69 @@ use Prim.Native.Nat.{ℕ, _+_, _-_, _≤_, _<_}
 use native.Mathlib.Omega.{arith}
 use native.Mathlib.Numerals.{add-one}
 use lib.ListN.{length, getD, take, drop, length-append, length-drop, take-append-drop}
-use lib.Seq.{take-length, drop-length, take-at, drop-at, take-suc, drop-drop}
+use lib.Seq.{take-length, drop-length, take-at, drop-at, take-suc, drop-drop, drop-append-add, getD-append-add}
 use borrow.Rule.Slice.PartMut.{putMid, midOf}
 use Rattle.entries.specs.declared.Entry.{Entry}
 use Rattle.table.specs.declared.Table.{Table}
 use Rattle.entries.specs.Entries.{blank, numbersOf, sizeOf, bytesOf, onto}
-use Rattle.table.specs.Contents.{written}
-use Rattle.table.specs.Reading.{contentsIn, Fits}
+use Rattle.table.specs.Contents.{others, written}
+use Rattle.table.specs.Reading.{contentsIn}
 use Rattle.entries.proofs.OneEntry.{size, onto-long}
 use Rattle.table.proofs.Writing.{written-append, written-more}
-use Rattle.table.proofs.Held.{held, rows-length, held-length, held-row, held-question}
+use Rattle.table.proofs.Held.{upTo-length, others-length, other-row, other-question}
 use Rattle.strike.specs.Strike.{old, lowered, closedUp, struckBytes}
 use Rattle.strike.proofs.Renumbering.{old-below, old-above}
 use Rattle.strike.proofs.Closing.{closed-at, length-closed}
-use Rattle.strike.proofs.Laws.{struck-entries}
+use Rattle.strike.proofs.Laws.{struck-others}
 
--- entry j of those closed up over row r
-module _ {t : Table} (f : Fits t) (r : ℕ) (u : r < t .tally .rows) where
-  pub struck-held : struckBytes r (contentsIn t) ≡ written (closedUp r (held t))
-  struck-held = ap written (struck-entries r (contentsIn t) (rw (rows-length f) u))
+-- the entries to write: the constraints as they are, and behind them the others, closed up over row r
+module _ (t : Table) (r : ℕ) where
+  abbrev bound : ℕ
+  bound = t .tally .constraints
 
-  pub closed-count : length (closedUp r (held t)) ≡ t .tally .rows + t .tally .questions - 1
-  closed-count = omega (arith, length-closed r (held t) (omega (arith, held-length f)), held-length f)
+  abbrev used : ℕ
+  used = t .tally .rows
 
-  -- as the code takes it, from its old number i
-  pub closed-next : {A B C D : Type 0} (j i : ℕ) (g : Entry) → j < t .tally .rows + t .tally .questions - 1 →
+  abbrev asked : ℕ
+  asked = t .tally .questions
+
+  abbrev constraints : List Entry
+  constraints = contentsIn t .constraints
+
+  abbrev closed : List Entry
+  closed = closedUp r (others (contentsIn t))
+
+  abbrev pub left : List Entry
+  left = constraints ++ closed
+
+  pub struck-left : r < used → struckBytes r (contentsIn t) ≡ written left
+  struck-left u = ap (λ (es : List Entry). written (constraints ++ es)) (struck-others r (contentsIn t) (rw (upTo-length (t .rows) used) u))
+
+  pub left-count : r < used → length left ≡ bound + used + asked - 1
+  left-count u =
+      let fewer = length-closed r (others (contentsIn t)) (omega (arith, others-length t)) in
+      omega (arith, length-append constraints closed, upTo-length (t .constraints) bound, fewer, others-length t)
+
+  -- the constraints are the first of them
+  constraints-first : take bound left ≡ constraints
+  constraints-first = take-at constraints closed bound (upTo-length (t .constraints) bound)
+
+  -- entry j behind the constraints, as the code takes it, from its number i among the others of the table
+  pub left-next : {A B C D : Type 0} (j i : ℕ) (g : Entry) → j < used + asked - 1 →
       (A → (j < r) × (i ≡ j)) → (B → (r ≤ j) × (i ≡ j + 1)) → A ⊎ B →
-      (C → (i < t .tally .rows) × (g ≡ lowered r (getD (t .rows) i blank))) →
-      (D → (t .tally .rows ≤ i) × (g ≡ lowered r (getD (t .questions) (i - t .tally .rows) blank))) → C ⊎ D →
-      g ≡ getD (closedUp r (held t)) j blank
-  closed-next j i g l below above number row question entry =
+      (C → (i < used) × (g ≡ lowered r (getD (t .rows) i blank))) →
+      (D → (used ≤ i) × (g ≡ lowered r (getD (t .questions) (i - used) blank))) → C ⊎ D →
+      g ≡ getD left (bound + j) blank
+  left-next j i g l below above number row question entry =
       let o : i ≡ old r j =
       ⊎-elim (λ w. below w .1 ∙ sym (old-below r j (below w .0))) (λ w. above w .1 ∙ add-one j ∙ sym (old-above r j (above w .0))) number in
-      let here : i < t .tally .rows + t .tally .questions = ⊎-elim (λ w. let b = below w in omega arith) (λ w. let b = above w in omega arith) number in
-      let m : g ≡ lowered r (getD (held t) i blank) =
-      ⊎-elim (λ w. row w .1 ∙ ap (lowered r) (sym (held-row f i (row w .0))))
-      (λ w. question w .1 ∙ ap (lowered r) (sym (held-question f i (question w .0) here))) entry in
-      m ∙ ap (λ (i : ℕ). lowered r (getD (held t) i blank)) o ∙ sym (closed-at r (held t) j)
+      let here : i < used + asked = ⊎-elim (λ w. let b = below w in omega arith) (λ w. let b = above w in omega arith) number in
+      let m : g ≡ lowered r (getD (others (contentsIn t)) i blank) =
+      ⊎-elim (λ w. row w .1 ∙ ap (lowered r) (sym (other-row t i (row w .0))))
+      (λ w. question w .1 ∙ ap (lowered r) (sym (other-question t i (question w .0) here))) entry in
+      let at : bound + j ≡ length constraints + j = omega (arith, upTo-length (t .constraints) bound) in
+      m ∙ ap (λ (i : ℕ). lowered r (getD (others (contentsIn t)) i blank)) o ∙ sym (closed-at r (others (contentsIn t)) j)
+      ∙ sym (ap (λ (k : ℕ). getD left k blank) at ∙ getD-append-add constraints closed j blank)
 
 -- the first j entries stand in the output, up to a place, and behind them what was there; all of them fit
 pub record Filled (es : List Entry) (before : List ℕ) (j at : ℕ) (out : List ℕ) : Type 0 where
@@ -108,3 +134,31 @@ module _ {es : List Entry} {before : List ℕ} {j at : ℕ} {out : List ℕ} (f 
             ∙ sym (append-assoc (written (take j es)) (bytesOf e) (drop (at + sizeOf e) before))
             ∙ ap (λ (l : List ℕ). l ++ drop (at + sizeOf e) before) (sym more);
       })
+
+-- what was written over the front: from its end on, the output is as it was at first
+first-written : (front first out : List ℕ) (n at : ℕ) → n ≡ length front → out ≡ front ++ drop n first → n ≤ at → drop at out ≡ drop at first
+first-written front first out n at p q l =
+    let more : at ≡ length front + (at - n) = omega arith in
+    let back : n + (at - n) ≡ at = omega arith in
+    ap₂ drop more q ∙ drop-append-add front (drop n first) (at - n) ∙ drop-drop (at - n) n first ∙ ap (λ (k : ℕ). drop k first) back
+
+-- the constraints, written over the front of an output; and all that is left, once it is written behind them
+module _ (t : Table) (r : ℕ) (first out : List ℕ) (n : ℕ) (p : n ≡ length (written (contentsIn t .constraints)))
+    (q : out ≡ written (contentsIn t .constraints) ++ drop n first) where
+  pub filled-kept : length (written (left t r)) ≤ length out → Filled (left t r) out (t .tally .constraints + 0) n out
+  filled-kept fits =
+      let z : t .tally .constraints + 0 ≡ t .tally .constraints = omega arith in
+      rw (z) (record {
+        fits = fits;
+        place = rw (constraints-first t r) p;
+        bytes = rw (constraints-first t r) (q ∙ ap (λ (l : List ℕ). written (contentsIn t .constraints) ++ l)
+            (sym (first-written (written (contentsIn t .constraints)) first out n n p q (omega arith))));
+      })
+
+  pub left-written : (at : ℕ) (last : List ℕ) → (at ≡ length (written (left t r))) × (last ≡ written (left t r) ++ drop at out) →
+      (at ≡ length (written (left t r))) × (last ≡ written (left t r) ++ drop at first)
+  left-written at last w =
+      let constraints = contentsIn t .constraints in
+      let long = ap length (written-append constraints (closedUp r (others (contentsIn t)))) in
+      let far : n ≤ at = omega (arith, p, w .0, long, length-append (written constraints) (written (closedUp r (others (contentsIn t))))) in
+      (w .0, w .1 ∙ ap (λ (l : List ℕ). written (left t r) ++ l) (first-written (written constraints) first out n at p q far))

@@ -10,11 +10,11 @@ use lib.ListN.{length, getD, List·getD-eq-default}
 use Rattle.belnap.proofs.Finite.{never}
 use Rattle.entries.specs.declared.Entry.{Entry}
 use Rattle.entries.specs.Entries.{blank}
-use Rattle.table.specs.Contents.{Contents, predicates, entries}
+use Rattle.table.specs.Contents.{Contents, predicates}
 use Rattle.entries.specs.Renaming.{namesRow}
 use Rattle.entries.proofs.Numbers.{by-order}
 use Rattle.table.proofs.Writing.{each-get, Whole, RowAt, QuestionAt}
-use Rattle.table.proofs.Laws.{covered}
+use Rattle.walk.proofs.Answers.{bounded}
 use Rattle.table.proofs.Renaming.{first-below, second-below}
 use Rattle.decide.specs.Meaning.{decision}
 use Rattle.decide.proofs.Renaming.{Named, Renames, decision-kept}
@@ -24,7 +24,7 @@ use Rattle.questions.specs.Questions.{truth, truthSet}
 use Rattle.walk.specs.Walk.{walk, replyOf}
 use Rattle.questions.proofs.Renaming.{Asked, Follows, truth-kept as truth-renamed, truths-kept as truths-renamed}
 use Rattle.walk.proofs.Renaming.{walk-kept as walk-renamed}
-use Rattle.strike.specs.Strike.{lower, lowered, struck, names, namedBy}
+use Rattle.strike.specs.Strike.{lower, lowered, struck, names, inUse}
 use Rattle.strike.proofs.Renumbering.{old-lower, lower-apart, lower-still}
 use Rattle.strike.proofs.Closing.{first-other, second-other}
 use Rattle.strike.proofs.Laws.{struck-at, struck-question-at, struck-predicates, unnamed-row, unnamed-question}
@@ -34,7 +34,10 @@ abbrev pub Left : ℕ → ℕ → Type 0
 Left r i = i ≡ r → ⊥
 
 -- a table that is whole, and whose row r nothing names
-module _ (c : Contents) (r : ℕ) (w : Whole c) (unnamed : namedBy r (entries c) ≡ false) where
+module _ (c : Contents) (r : ℕ) (w : Whole c) (unnamed : inUse r c ≡ false) where
+  abbrev bound : ℕ
+  bound = length (c .constraints)
+
   abbrev row : ℕ → Entry
   row i = getD (c .rows) i blank
 
@@ -42,10 +45,10 @@ module _ (c : Contents) (r : ℕ) (w : Whole c) (unnamed : namedBy r (entries c)
   question j = getD (c .questions) j blank
 
   -- what is known of row i where it names a row; past the end no row is named
-  row-names : {P : Type 0} (place i : ℕ) → namesRow place (row i) ≡ true → (RowAt i (row i) → names r (row i) ≡ false → P) → P
+  row-names : {P : Type 0} (place i : ℕ) → namesRow place (row i) ≡ true → (RowAt bound i (row i) → names r (row i) ≡ false → P) → P
   row-names place i t k =
       by-order i (length (c .rows))
-      (λ l. k (each-get RowAt (c .rows) blank (w .rows-sound) i l) (unnamed-row r c unnamed i l))
+      (λ l. k (each-get (RowAt bound) (c .rows) blank (w .rows-sound) i l) (unnamed-row r c unnamed i l))
       (λ l. never (sym (rw (List·getD-eq-default (c .rows) blank l) at t)))
 
   named : (i x : ℕ) → Left r i → x < i → Left r x → Named (lower r) (Left r) i x
@@ -64,7 +67,7 @@ module _ (c : Contents) (r : ℕ) (w : Whole c) (unnamed : namedBy r (entries c)
   question-asked : (j : ℕ) → Asked (question j)
   question-asked j =
       by-order j (length (c .questions))
-      (λ l. inl (each-get (QuestionAt (length (c .rows))) (c .questions) blank (w .questions-sound) j l .in-part))
+      (λ l. inl (each-get (QuestionAt bound (length (c .rows))) (c .questions) blank (w .questions-sound) j l .in-part))
       (λ l. inr (List·getD-eq-default (c .questions) blank l))
 
   questions-follow : Follows (lower r) (Left r) (c .questions) (struck r c .questions)
@@ -90,10 +93,14 @@ module _ (c : Contents) (r : ℕ) (w : Whole c) (unnamed : namedBy r (entries c)
   truths-kept = truths-renamed rows-renamed questions-follow
 
   -- every question gets the same verdict, request and count with every budget, though n may be smaller now
-  pub walk-kept : (j : ℕ) → walk (struck r c .rows) (struck r c .questions) (predicates (struck r c)) j ≡ walk (c .rows) (c .questions) (predicates c) j
-  walk-kept = walk-renamed rows-renamed questions-follow (predicates (struck r c)) (covered (struck r c)) (predicates c) (struck-predicates r c)
+  pub walk-kept : (j : ℕ) →
+      walk (struck r c .constraints) (struck r c .rows) (struck r c .questions) (predicates (struck r c)) j
+      ≡ walk (c .constraints) (c .rows) (c .questions) (predicates c) j
+  walk-kept =
+      walk-renamed rows-renamed questions-follow (c .constraints) (predicates (struck r c))
+      (bounded (struck r c) (w .constraints-sound)) (predicates c) (struck-predicates r c)
 
   pub verdict-kept : (j budget : ℕ) →
-      replyOf budget (walk (struck r c .rows) (struck r c .questions) (predicates (struck r c)) j) ≡ replyOf budget
-      (walk (c .rows) (c .questions) (predicates c) j)
+      replyOf budget (walk (struck r c .constraints) (struck r c .rows) (struck r c .questions) (predicates (struck r c)) j)
+      ≡ replyOf budget (walk (c .constraints) (c .rows) (c .questions) (predicates c) j)
   verdict-kept j budget = ap (replyOf budget) (walk-kept j)

@@ -11,10 +11,10 @@ use borrow.Author.Tests.{leb-false, ltb-false}
 use Rattle.entries.specs.declared.refusals.Refusal.{Refusal}
 use Rattle.entries.specs.Refusals.{ifMissing}
 use Rattle.entries.specs.Said.{Said, answered, refusing, unless}
-use Rattle.table.specs.Contents.{Contents, entries}
+use Rattle.table.specs.Contents.{Contents}
 use Rattle.table.specs.Reading.{reading}
 use Rattle.entries.proofs.Saying.{not-both, unless-answered}
-use Rattle.strike.specs.Strike.{struck, struckBytes, namedBy, missing, inUse, tooShort, strikeRefusal, struckAnswer, struckOutput}
+use Rattle.strike.specs.Strike.{struck, struckBytes, missing, inUse, tooShort, strikeRefusal, struckAnswer, struckOutput}
 use Rattle.strike.proofs.Laws.{struck-accepted, output-of}
 
 -- what a length that comes back tells
@@ -22,7 +22,7 @@ pub record Done (x : Said Contents) (r room n : ℕ) : Type 0 where
   pub contents : Contents
   pub is : x ≡ answered contents
   pub there : r < length (contents .rows)
-  pub unnamed : namedBy r (entries contents) ≡ false
+  pub unnamed : inUse r contents ≡ false
   pub count : n ≡ length (struckBytes r contents)
   pub fits : n ≤ room
 

@@ -1,13 +1,14 @@
 -- Striking a row (01, "Taking one entry, and striking a row" and "When we say no").
 use Prim.Native.Nat.{ℕ, zero, suc, _-_}
-use mathlib.Core.Bool.{Bool, false, cond, _&&_, _||_}
+use mathlib.Core.Bool.{Bool, cond, _&&_, _||_}
 use mathlib.Core.List.{List, [], _∷_, _++_, map}
 use lib.ListN.{length, drop}
 use lib.Dec.{leb, ltb, eqb}
 use Rattle.entries.specs.declared.Entry.{Entry}
 use Rattle.entries.specs.Refusals.{stillNamed, outputTooShort, ifMissing}
 use Rattle.entries.specs.Said.{Said, answered, refusing, andThen, unless}
-use Rattle.table.specs.Contents.{Contents, entries, encoded}
+use Rattle.entries.specs.Lists.{some}
+use Rattle.table.specs.Contents.{Contents, others, encoded}
 use Rattle.entries.specs.Renaming.{namesRow, renamed}
 
 -- "each row number above r lowered by one"
@@ -32,29 +33,25 @@ without (suc r) (x ∷ l) = x ∷ without r l
 abbrev pub closedUp : ℕ → List Entry → List Entry
 closedUp r es = map (lowered r) (without r es)
 
--- "the table without that row"
+-- "the table without that row"; "striking keeps them", the constraints (02, L5)
 abbrev pub struck : ℕ → Contents → Contents
-struck r c = record { rows = closedUp r (c .rows); questions = map (lowered r) (c .questions) }
+struck r c = record { constraints = c .constraints; rows = closedUp r (c .rows); questions = map (lowered r) (c .questions) }
 
 -- its bytes
 abbrev pub struckBytes : ℕ → Contents → List ℕ
 struckBytes r c = encoded (struck r c)
 
--- whether an entry names row r, and whether some entry of a list does
+-- whether an entry names row r
 abbrev pub names : ℕ → Entry → Bool
 names r e = (namesRow 0 e && eqb (e .a) r) || (namesRow 1 e && eqb (e .b) r)
-
-unfoldable pub namedBy : ℕ → List Entry → Bool
-namedBy r [] = false
-namedBy r (e ∷ es) = names r e || namedBy r es
 
 -- 8, "the row or question asked for is not there"
 abbrev pub missing : ℕ → Contents → Bool
 missing r c = leb (length (c .rows)) r
 
 -- 9, "the row to strike is named by a row or question"
-abbrev pub inUse : ℕ → Contents → Bool
-inUse r c = namedBy r (entries c)
+unfoldable pub inUse : ℕ → Contents → Bool
+inUse r c = some (names r) (others c)
 
 -- 11, "the output is shorter than the bytes to write"
 abbrev pub tooShort : ℕ → ℕ → Contents → Bool

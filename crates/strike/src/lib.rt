@@ -11,6 +11,7 @@ ghost use mathlib.Core.List.{_++_};
 ghost use Prim.Native.Nat.{_≤_, _<_};
 ghost use lib.ListN.{length, drop};
 ghost use Rattle.entries.specs.Output.{shownOutput};
+ghost use Rattle.table.specs.Contents.{written};
 ghost use Rattle.table.specs.Reading.{reading, contentsIn, Fits};
 ghost use Rattle.strike.specs.Strike.{lower, lowered, names, struckBytes, inUse, strikeRefusal, struckAnswer, struckOutput};
 
@@ -69,14 +70,32 @@ fn named(t: Table, r: usize) -> bool
     false
 }
 
-// The entries without row r, each into the unwritten rest of the output.
+// The constraints, over the front of an output that has room for them.
+fn keep(t: Table, out: &mut [u8]) -> usize
+    requires { ⌜ Fits t × (length (written (contentsIn t .constraints)) ≤ length (now out)) ⌝ }
+    ensures { λ n. ⌜ (n ≡ length (written (contentsIn t .constraints))) ×
+        (now (out .exit) ≡ written (contentsIn t .constraints) ++ drop n (now (out .entry))) ⌝ }
+{
+    let count = t.tally.constraints;
+    let mut at = 0;
+    let mut i = 0;
+    while i < count {
+        let e = t.constraints[i];
+        let n = entries::put(&mut out[at..], e);
+        at = at + n;
+        i += 1;
+    }
+    at
+}
+
+// The entries without row r, each into the unwritten rest of the output: the constraints as they are, and behind them the others.
 fn write(t: Table, r: usize, out: &mut [u8]) -> usize
     requires { ⌜ Fits t × (r < t .tally .rows) × (length (struckBytes r (contentsIn t)) ≤ length (now out)) ⌝ }
     ensures { λ n. ⌜ (n ≡ length (struckBytes r (contentsIn t))) × (now (out .exit) ≡ struckBytes r (contentsIn t) ++ drop n (now (out .entry))) ⌝ }
 {
     let used = t.tally.rows;
     let count = used + t.tally.questions - 1;
-    let mut at = 0;
+    let mut at = keep(t, out);
     let mut j = 0;
     while j < count {
         let i = if j < r { j } else { j + 1 };

@@ -27,7 +27,7 @@ cast-questions : tie.Need-cast-questions
 cast-questions c = let o = open-at (c .before .before .before) in record { fits = omega (arith, asked-is o, o .whole .questions-fit) }
 
 cast-predicates : tie.Need-cast-predicates
-cast-predicates c = let o = open-at (c .before .before .before .before) in record { fits = omega (arith, predicates-is o, limits _ (o .contents) (o .is) .3) }
+cast-predicates c = let o = open-at (c .before .before .before .before) in record { fits = omega (arith, predicates-is o, limits _ (o .contents) (o .is) .4) }
 
 returns-2 : tie.Need-returns-2
 returns-2 c = counts-answer (open-at (c .before .before .before .before))
