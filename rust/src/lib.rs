@@ -1,9 +1,10 @@
 //! Rule tables over four decisions: grant, deny, conflict and unspecified.
 //!
 //! A table is a byte string: a run of constraints, which say what requests can occur,
-//! then a run of rows, then a run of questions about them. Each function takes the whole table and reads it first; nothing is kept
-//! between calls, and any thread may call. Every byte string and every number
-//! brings an answer or a [`Refusal`], so nothing need be checked beforehand.
+//! then a run of rows, then a run of questions about them. Each function takes the
+//! whole table and reads it first; nothing is kept between calls, and any thread may
+//! call. Every byte string and every number brings an answer or a [`Refusal`], so
+//! nothing need be checked beforehand.
 //! A table also has a text, one line an entry: [`to_text`] writes it, and
 //! [`from_text`] reads any text, with an answer or a [`TextRefusal`].
 //!
@@ -421,9 +422,9 @@ pub fn entry(table: &[u8], row: u32) -> Result<&[u8], Refusal> {
 ///
 /// The text has one line for each entry, in their order: the word for its kind, its
 /// numbers in decimal with a single space before each, and a line feed. So row r of a
-/// table with c constraints is on line c + r + 1. Every accepted table has exactly one text, and [`from_text`] reads
-/// that as the same bytes. The bytes of `out` behind those written keep what they
-/// had, and on a refusal all of them do.
+/// table with c constraints is on line c + r + 1. Every accepted table has exactly one
+/// text, and [`from_text`] reads that as the same bytes. The bytes of `out` behind those
+/// written keep what they had, and on a refusal all of them do.
 ///
 /// ```
 /// let table = [0x11, 0x05, 0x20, 0x00, 0x40, 0x00, 0x01];

@@ -16,8 +16,10 @@ impl Share {
         self.of += usize::from(case.is_ok());
     }
 
+    /// At least so many percent, of cases enough to tell.
     pub fn require(self, percent: usize, what: &str) {
         println!("{what}: {} of {} differ", self.differ, self.of);
+        assert!(self.of >= 20, "{what}: only {} cases", self.of);
         assert!(100 * self.differ >= percent * self.of, "{what}: fewer than {percent} percent");
     }
 }
