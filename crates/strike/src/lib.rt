@@ -77,15 +77,15 @@ fn keep(t: Table, out: &mut [u8]) -> usize
         (now (out .exit) ≡ written (contentsIn t .constraints) ++ drop n (now (out .entry))) ⌝ }
 {
     let count = t.tally.constraints;
-    let mut at = 0;
+    let mut end = 0;
     let mut i = 0;
     while i < count {
         let e = t.constraints[i];
-        let n = entries::put(&mut out[at..], e);
-        at = at + n;
+        let n = entries::put(&mut out[end..], e);
+        end = end + n;
         i += 1;
     }
-    at
+    end
 }
 
 // The entries without row r, each into the unwritten rest of the output: the constraints as they are, and behind them the others.

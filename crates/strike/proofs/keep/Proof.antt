@@ -12,10 +12,10 @@ use Rattle.strike.proofs.keep.Statement.{statement}
 use Rattle.strike.proofs.keep.Tie as tie
 
 abbrev Inv-loop : tie.InvT-loop
-Inv-loop out₀ t count at₀ i₀ out at i = (i ≤ count) × Filled (contentsIn t .constraints) out₀ i at out
+Inv-loop out₀ t count end₀ i₀ out end i = (i ≤ count) × Filled (contentsIn t .constraints) out₀ i end out
 
 abbrev μ-loop : tie.MeasureT-loop
-μ-loop out₀ t count at₀ i₀ out at i = count - i
+μ-loop out₀ t count end₀ i₀ out end i = count - i
 
 loop-holds : tie.Need-loop-holds Inv-loop μ-loop
 loop-holds c = let start = c .before in (omega arith, filled-none (contentsIn (start .args .t1) .constraints) (start .args .out .now) (start .pre .1))
@@ -47,8 +47,8 @@ next c =
     let t = start (at-head c) .args .t1 in
     sym (upTo-at (t .constraints) (t .tally .constraints) (at-head c .loop .i) (c .before .before .before .loop-test .taken))
 
-add-at : tie.Need-add-at Inv-loop μ-loop
-add-at c =
+add-end : tie.Need-add-end Inv-loop μ-loop
+add-end c =
     let put = c .before .before in
     let filled = at-head put .loop .inv .1 in
     record { fits = omega (arith, put .put .ensures .0, filled-room filled (is-there put) _ (next put)) }
@@ -59,7 +59,7 @@ loop-again c =
     let now = at-head put .loop in
     let p = put .put in (
       omega (arith, put .before .before .before .loop-test .taken),
-      filled-more (now .inv .1) (is-there put) _ (next put) (length (now .out) - now .at) (p .result) (p .last .0) refl (p .ensures .0) (p .ensures .1),
+      filled-more (now .inv .1) (is-there put) _ (next put) (length (now .out) - now .end) (p .result) (p .last .0) refl (p .ensures .0) (p .ensures .1),
     )
 
 same-length : tie.Need-same-length Inv-loop μ-loop
@@ -83,7 +83,7 @@ keep-spec =
     part-put-start
     (λ c. search needs)
     (λ c κs. search needs)
-    add-at
+    add-end
     (λ c. search needs)
     (λ c. search needs)
     loop-again
