@@ -8,9 +8,8 @@ use native.Mathlib.Numerals.{add-one}
 use lib.ListN.{length, getD, drop, set, length-append, length-drop, drop-of-length-le}
 use lib.Seq.{drop-cons, drop-drop}
 use Rattle.entries.specs.declared.refusals.Refusal.{Refusal}
-use Rattle.kinds.specs.declared.RowKind.{RowKind}
 use Rattle.kinds.specs.declared.QuestionKind.{QuestionKind}
-use Rattle.kinds.specs.declared.ConstraintKind.{ConstraintKind}
+use Rattle.kinds.specs.declared.QuestionKind.the-variants.{Compare, Not, Both}
 use Rattle.kinds.specs.declared.Kind.{Kind}
 use Rattle.kinds.specs.declared.Kind.the-variants.{Row, Question, Constraint}
 use Rattle.entries.specs.declared.Entry.{Entry}
@@ -23,7 +22,7 @@ use Rattle.table.specs.Contents.{Contents, none, tallyOf, withKind, with
 use Rattle.table.specs.Reading.{after, readOn, reading, tableOf}
 use Rattle.table.proofs.Padding.{padded-more}
 use Rattle.entries.proofs.OneEntry.{size}
-use Rattle.table.proofs.Permission.{room-of}
+use Rattle.table.proofs.Permission.{Room, room-of}
 use Rattle.table.proofs.Decoding.{step-took, step-points, points-within}
 
 -- how many entries more are looked for does not matter, once there are as many as bytes
@@ -52,12 +51,61 @@ unfolding highest
 highest-more [] e = omega arith
 highest-more (x ∷ es) e = let h = highest-more es e in omega (arith, h)
 
--- n with a row more, and with a constraint more
-row-counted : (c : Contents) (e : Entry) → max (predicates c) (uses e) ≡ max (highest (c .constraints)) (highest (c .rows ++ (e ∷ [])))
-row-counted c e = omega (arith, highest-more (c .rows) e)
+-- no question uses a predicate
+question-unused : (k : QuestionKind) (e : Entry) → e .kind ≡ Question k → uses e ≡ 0
+question-unused (Compare o) e p = rw p refl
+question-unused Not e p = rw p refl
+question-unused Both e p = rw p refl
 
-constraint-counted : (c : Contents) (e : Entry) → max (predicates c) (uses e) ≡ max (highest (c .constraints ++ (e ∷ []))) (highest (c .rows))
-constraint-counted c e = omega (arith, highest-more (c .constraints) e)
+-- n with an entry more
+counted : (kind : Kind) (e : Entry) (c : Contents) → e .kind ≡ kind → max (predicates c) (uses e) ≡ predicates (withKind kind e c)
+counted (Row k) e c p = omega (arith, highest-more (c .rows) e)
+counted (Question k) e c p = let unused : uses e ≡ 0 = question-unused k e p in omega (arith, unused)
+counted (Constraint k) e c p = omega (arith, highest-more (c .constraints) e)
+
+-- a struct with an entry stored in the array of its part
+abbrev pub stored : Kind → Entry → Table → Table
+stored (Row k) e t = record {
+  constraints = t .constraints;
+  rows = set (t .rows) (t .tally .rows) e;
+  questions = t .questions;
+  tally = t .tally;
+  predicates = t .predicates;
+}
+stored (Question k) e t = record {
+  constraints = t .constraints;
+  rows = t .rows;
+  questions = set (t .questions) (t .tally .questions) e;
+  tally = t .tally;
+  predicates = t .predicates;
+}
+stored (Constraint k) e t = record {
+  constraints = set (t .constraints) (t .tally .constraints) e;
+  rows = t .rows;
+  questions = t .questions;
+  tally = t .tally;
+  predicates = t .predicates;
+}
+
+stored-predicates : (kind : Kind) (e : Entry) (t : Table) → stored kind e t .predicates ≡ t .predicates
+stored-predicates (Row k) e t = refl
+stored-predicates (Question k) e t = refl
+stored-predicates (Constraint k) e t = refl
+
+-- a struct with other counts
+abbrev pub counting : Table → Tally → ℕ → Table
+counting t u n = record { constraints = t .constraints; rows = t .rows; questions = t .questions; tally = u; predicates = n }
+
+-- an entry stored and counted: the struct of the contents with it
+stored-table : (kind : Kind) (e : Entry) (c : Contents) → e .kind ≡ kind → Room kind (tallyOf c) →
+    counting (stored kind e (tableOf c)) (oneMore kind (tallyOf c)) (max (predicates c) (uses e)) ≡ tableOf (withKind kind e c)
+unfolding tableOf
+stored-table (Row k) e c p room =
+    rw (padded-more blank rowLimit (c .rows) e (room .0), counted (Row k) e c p, length-append (c .rows) (e ∷ []))
+stored-table (Question k) e c p room =
+    rw (padded-more blank questionLimit (c .questions) e room, counted (Question k) e c p, length-append (c .questions) (e ∷ []))
+stored-table (Constraint k) e c p room =
+    rw (padded-more blank constraintLimit (c .constraints) e (room .0), counted (Constraint k) e c p, length-append (c .constraints) (e ∷ []))
 
 -- what holds at the loop's head: the struct stands for what was read so far, and reading on from there is reading the whole
 pub record At (s : List ℕ) (t : Table) (at : ℕ) : Type 0 where
@@ -120,81 +168,24 @@ module _ (s : List ℕ) (t : Table) (at : ℕ) (h : At s t at) (l : at < length 
         left = enough _ _ (withEntry (h .contents) e) (at + sizeOf e) (drop (at + sizeOf e) s) (omega (arith, n)) (omega (arith, n, size e)) ∙ on;
       }
 
-  -- there is room for it, as a row, as a question or as a constraint
+  -- there is room for it, by its kind
   pub room-here : (e : Entry) → here ≡ answered e → noRoom (e .kind) (t .tally) ≡ 0
   room-here e q = step-took (getD s at 0) (drop (at + 1) s) (t .tally) e q .1 .room
 
-  pub row-room : (e : Entry) (k : RowKind) → here ≡ answered e → e .kind ≡ Row k → t .tally .rows < rowLimit
-  row-room e k q p = room-of (Row k) (t .tally) (rw p at (room-here e q)) .0
+  pub room-for : (e : Entry) (kind : Kind) → here ≡ answered e → e .kind ≡ kind → Room kind (t .tally)
+  room-for e kind q p = room-of kind (t .tally) (rw p at (room-here e q))
 
-  pub question-room : (e : Entry) (k : QuestionKind) → here ≡ answered e → e .kind ≡ Question k → t .tally .questions < questionLimit
-  question-room e k q p = room-of (Question k) (t .tally) (rw p at (room-here e q))
-
-  pub constraint-room : (e : Entry) (k : ConstraintKind) → here ≡ answered e → e .kind ≡ Constraint k → t .tally .constraints < constraintLimit
-  constraint-room e k q p = room-of (Constraint k) (t .tally) (rw p at (room-here e q)) .0
-
-  -- the struct with it in its place, and with it counted
-  abbrev Grown : Entry → Table → Tally → Type 0
-  Grown e m u =
-      _≡_ {A = Table}
-      (record { constraints = m .constraints; rows = m .rows; questions = m .questions; tally = u; predicates = m .predicates })
-      (tableOf (withEntry (h .contents) e))
-
-  pub row-more : (e : Entry) (k : RowKind) (m : Table) (n : ℕ) (u : Tally) → here ≡ answered e → e .kind ≡ Row k →
-      n ≡ max (t .predicates) (uses e) →
-      m ≡ record { constraints = t .constraints; rows = set (t .rows) (t .tally .rows) e; questions = t .questions; tally = t .tally; predicates = n } →
-      u ≡ oneMore (e .kind) (t .tally) → Grown e m u
+  -- the struct with it in its place, and with its predicates and itself counted
+  pub grown : (kind : Kind) (e : Entry) (m : Table) (n : ℕ) (u : Tally) → here ≡ answered e → e .kind ≡ kind → m ≡ stored kind e t →
+      n ≡ max (m .predicates) (uses e) → u ≡ oneMore (e .kind) (t .tally) → counting m u n ≡ tableOf (withEntry (h .contents) e)
   unfolding tableOf
-  row-more e k m n u q p r w v =
+  grown kind e m n u q p r w v =
       let c = h .contents in
-      let fits : length (c .rows) < rowLimit = rw tally-is at (row-room e k q p) in
-      let more : withEntry c e ≡ withKind (Row k) e c = ap (λ (k : Kind). withKind k e c) p in
-      let count : u ≡ oneMore (Row k) (t .tally) = v ∙ ap (λ (k : Kind). oneMore k (t .tally)) p in
-      rw (w, count, more, r, h .stands, padded-more blank rowLimit (c .rows) e fits, row-counted c e, length-append (c .rows) (e ∷ []))
-
-  pub question-more : (e : Entry) (k : QuestionKind) (m : Table) (u : Tally) → here ≡ answered e → e .kind ≡ Question k →
-      m ≡ record {
-        constraints = t .constraints;
-        rows = t .rows;
-        questions = set (t .questions) (t .tally .questions) e;
-        tally = t .tally;
-        predicates = t .predicates;
-      } →
-      u ≡ oneMore (e .kind) (t .tally) → Grown e m u
-  unfolding tableOf
-  question-more e k m u q p w v =
-      let c = h .contents in
-      let fits : length (c .questions) < questionLimit = rw tally-is at (question-room e k q p) in
-      let more : withEntry c e ≡ withKind (Question k) e c = ap (λ (k : Kind). withKind k e c) p in
-      let count : u ≡ oneMore (Question k) (t .tally) = v ∙ ap (λ (k : Kind). oneMore k (t .tally)) p in
-      rw (w, count, more, h .stands, padded-more blank questionLimit (c .questions) e fits, length-append (c .questions) (e ∷ []))
-
-  pub constraint-more : (e : Entry) (k : ConstraintKind) (m : Table) (n : ℕ) (u : Tally) → here ≡ answered e → e .kind ≡ Constraint k →
-      n ≡ max (t .predicates) (uses e) →
-      m ≡ record {
-        constraints = set (t .constraints) (t .tally .constraints) e;
-        rows = t .rows;
-        questions = t .questions;
-        tally = t .tally;
-        predicates = n;
-      } →
-      u ≡ oneMore (e .kind) (t .tally) → Grown e m u
-  unfolding tableOf
-  constraint-more e k m n u q p r w v =
-      let c = h .contents in
-      let fits : length (c .constraints) < constraintLimit = rw tally-is at (constraint-room e k q p) in
-      let more : withEntry c e ≡ withKind (Constraint k) e c = ap (λ (k : Kind). withKind k e c) p in
-      let count : u ≡ oneMore (Constraint k) (t .tally) = v ∙ ap (λ (k : Kind). oneMore k (t .tally)) p in
-      rw (
-        w,
-        count,
-        more,
-        r,
-        h .stands,
-        padded-more blank constraintLimit (c .constraints) e fits,
-        constraint-counted c e,
-        length-append (c .constraints) (e ∷ []),
-      )
+      let fits : Room kind (tallyOf c) = rw tally-is at (room-for e kind q p) in
+      let count : u ≡ oneMore kind (tallyOf c) = rw (v, tally-is) (ap (λ (k : Kind). oneMore k (tallyOf c)) p) in
+      let used : n ≡ max (predicates c) (uses e) = rw (w, r, stored-predicates kind e t, h .stands) in
+      let more : withEntry c e ≡ withKind kind e c = ap (λ (k : Kind). withKind k e c) p in
+      rw (count, used, r, h .stands, more) (stored-table kind e c p fits)
 
 -- the end of the bytes
 pub read-none : (f : ℕ) (c : Contents) (at : ℕ) → readOn f c at [] ≡ answered c

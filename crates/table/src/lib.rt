@@ -93,7 +93,6 @@ pub fn read(s: &[u8]) -> Reading
                     Kind::Row(_) => {
                         let used = before.rows;
                         t.rows[used] = e;
-                        t.predicates = entries::larger(t.predicates, entries::uses_of(e));
                     }
                     Kind::Question(_) => {
                         let asked = before.questions;
@@ -102,9 +101,9 @@ pub fn read(s: &[u8]) -> Reading
                     Kind::Constraint(_) => {
                         let bound = before.constraints;
                         t.constraints[bound] = e;
-                        t.predicates = entries::larger(t.predicates, entries::uses_of(e));
                     }
                 }
+                t.predicates = entries::larger(t.predicates, entries::uses_of(e));
                 let more = steps::one_more(kind, before);
                 t.tally = more;
                 at = at + entries::size_of(e);

@@ -5,15 +5,18 @@ use mathlib.Core.Logic.{⊎-elim}
 use Prim.Native.Nat.{ℕ, _+_, _-_, _≤_, _<_, max}
 use native.Mathlib.Omega.{arith}
 use lib.ListN.{length}
+use Rattle.kinds.specs.declared.Kind.{Kind}
+use Rattle.kinds.specs.declared.Kind.the-variants.{Row, Question, Constraint}
 use Rattle.entries.specs.declared.Entry.{Entry}
 use Rattle.entries.specs.declared.refusals.Refusal.{Refusal}
 use Rattle.entries.specs.Said.{answered, refusing}
 use Rattle.table.specs.Steps.{rowLimit, questionLimit, constraintLimit}
-use Rattle.table.specs.Reading.{shown}
+use Rattle.table.specs.Contents.{withEntry}
+use Rattle.table.specs.Reading.{tableOf, shown}
 use Rattle.entries.proofs.OneEntry.{size}
+use Rattle.table.proofs.Permission.{Room}
 use Rattle.table.proofs.Decoding.{took, turned-away}
-use Rattle.table.proofs.Turns.{At, start, here, inside-of, taken, room-here, row-room, row-more, question-room, question-more}
-use Rattle.table.proofs.Turns.{constraint-room, constraint-more, bad, bad-inside, done}
+use Rattle.table.proofs.Turns.{At, start, here, inside-of, taken, room-here, room-for, stored, counting, grown, bad, bad-inside, done}
 use borrow.Author.Needs.{needs}
 use Rattle.table.proofs.read.Statement.{statement}
 use Rattle.table.proofs.read.Tie as tie
@@ -44,33 +47,28 @@ taken-here : (c : tie.After-known-told Inv-loop μ-loop) →
     here (bytes c) (at-head c .loop .t) (at-head c .loop .at) (at-head c .loop .inv) (in-bytes c) ≡ answered (entry c)
 taken-here c = took _ (entry c) (sym (c .before .before .before .step-at .ensures) ∙ c .before .step .given .1)
 
+room : (c : tie.After-known-told Inv-loop μ-loop) (kind : Kind) → entry c .kind ≡ kind → Room kind (at-head c .loop .t .tally)
+room c kind = room-for (bytes c) (at-head c .loop .t) (at-head c .loop .at) (at-head c .loop .inv) (in-bytes c) (entry c) kind (taken-here c)
+
 row-fits : (c : tie.After-enum-told Inv-loop μ-loop) → at-head (c .before .before) .loop .t .tally .rows < rowLimit
-row-fits c =
-    let told = c .before .before in
-    let head = at-head told in
-    row-room (bytes told) (head .loop .t) (head .loop .at) (head .loop .inv) (in-bytes told) (entry told) (c .enum-told .given .0 .0) (taken-here told)
-    (c .enum-told .given .1)
+row-fits c = room (c .before .before) _ (c .enum-told .given .1) .0
 
 question-fits : (c : tie.After-enum-told2 Inv-loop μ-loop) → at-head (c .before .before) .loop .t .tally .questions < questionLimit
-question-fits c =
-    let told = c .before .before in
-    let head = at-head told in
-    question-room (bytes told) (head .loop .t) (head .loop .at) (head .loop .inv) (in-bytes told) (entry told) (c .enum-told2 .given .0 .0) (taken-here told)
-    (c .enum-told2 .given .1)
+question-fits c = room (c .before .before) _ (c .enum-told2 .given .1)
 
 constraint-fits : (c : tie.After-enum-told3 Inv-loop μ-loop) → at-head (c .before .before) .loop .t .tally .constraints < constraintLimit
-constraint-fits c =
-    let told = c .before .before in
-    let head = at-head told in
-    constraint-room (bytes told) (head .loop .t) (head .loop .at) (head .loop .inv) (in-bytes told) (entry told) (c .enum-told3 .given .0 .0)
-    (taken-here told) (c .enum-told3 .given .1)
+constraint-fits c = room (c .before .before) _ (c .enum-told3 .given .1) .0
 
-inside : (c : tie.After-size-of Inv-loop μ-loop) →
-    at-head (c .before .before .before) .loop .at + c .size-of .result ≤ length (bytes (c .before .before .before))
+-- the entry stored and counted: where it was read
+abbrev told : tie.After-size-of Inv-loop μ-loop → tie.After-known-told Inv-loop μ-loop
+told c = c .before .before .before .before .before
+
+inside : (c : tie.After-size-of Inv-loop μ-loop) → at-head (told c) .loop .at + c .size-of .result ≤ length (bytes (told c))
 inside c =
-    let told = c .before .before .before in
-    let head = at-head told in
-    rw (c .size-of .ensures .0) (inside-of (bytes told) (head .loop .t) (head .loop .at) (head .loop .inv) (in-bytes told) (entry told) (taken-here told))
+    let e = told c in
+    let head = at-head e in
+    let ends = inside-of (bytes e) (head .loop .t) (head .loop .at) (head .loop .inv) (in-bytes e) (entry e) (taken-here e) in
+    omega (arith, c .size-of .ensures .0, ends)
 
 mul-e : tie.Need-mul-e Inv-loop μ-loop
 mul-e c = record { fits = omega (arith, row-fits c) }
@@ -92,37 +90,36 @@ element-set-from-e-3 c = constraint-fits c
 
 one-more-requires : tie.Need-one-more-requires Inv-loop μ-loop
 one-more-requires c κs =
-    let told = c .before in
-    let head = at-head told in
-    room-here (bytes told) (head .loop .t) (head .loop .at) (head .loop .inv) (in-bytes told) (entry told) (taken-here told)
+    let e = c .before .before .before in
+    let head = at-head e in
+    room-here (bytes e) (head .loop .t) (head .loop .at) (head .loop .inv) (in-bytes e) (entry e) (taken-here e)
 
 add-at : tie.Need-add-at Inv-loop μ-loop
 add-at c = record { fits = omega (arith, inside c) }
 
 loop-less : tie.Need-loop-less Inv-loop μ-loop
-loop-less c = omega (arith, inside c, c .size-of .ensures .0, size (entry (c .before .before .before)))
+loop-less c = omega (arith, inside c, c .size-of .ensures .0, size (entry (told c)))
 
 loop-again : tie.Need-loop-again Inv-loop μ-loop
 loop-again c =
     let more = c .before .one-more in
-    let came = c .before .before .match2 in
-    let told = c .before .before .before in
-    let head = at-head told in
-    let s = bytes told in
-    let e = entry told in
+    let larger = c .before .before .larger in
+    let uses = c .before .before .before .uses-of in
+    let came = c .before .before .before .before .match2 in
+    let e = told c in
+    let head = at-head e in
+    let store : (kind : Kind) → entry e .kind ≡ kind → came .t ≡ stored kind (entry e) (head .loop .t) →
+    counting (came .t) (more .result) (larger .result) ≡ tableOf (withEntry (head .loop .inv .contents) (entry e)) =
+    λ kind p q. grown (bytes e) (head .loop .t) (head .loop .at) (head .loop .inv) (in-bytes e) kind (entry e) (came .t) (larger .result) (more .result)
+    (taken-here e) p q (larger .ensures ∙ ap (max (came .t .predicates)) (uses .ensures .0)) (more .ensures) in
     let stands =
     ⊎-elim
-    (λ w. row-more s (head .loop .t) (head .loop .at) (head .loop .inv) (in-bytes told) e (w .1 .given .0 .0) (came .t) (w .3 .result) (more .result)
-    (taken-here told)
-    (w .1 .given .1) (w .3 .ensures ∙ ap (max (head .loop .t .predicates)) (w .2 .ensures .0)) (w .4) (more .ensures))
+    (λ w. store (Row (w .1 .given .0 .0)) (w .1 .given .1) (w .2))
     (⊎-elim
-    (λ w. question-more s (head .loop .t) (head .loop .at) (head .loop .inv) (in-bytes told) e (w .1 .given .0 .0) (came .t) (more .result) (taken-here told)
-    (w .1 .given .1) (w .2) (more .ensures))
-    (λ w. constraint-more s (head .loop .t) (head .loop .at) (head .loop .inv) (in-bytes told) e (w .1 .given .0 .0) (came .t) (w .3 .result) (more .result)
-    (taken-here told)
-    (w .1 .given .1) (w .3 .ensures ∙ ap (max (head .loop .t .predicates)) (w .2 .ensures .0)) (w .4) (more .ensures)))
+    (λ w. store (Question (w .1 .given .0 .0)) (w .1 .given .1) (w .2))
+    (λ w. store (Constraint (w .1 .given .0 .0)) (w .1 .given .1) (w .2)))
     (came .came) in
-    rw (c .size-of .ensures .0) (taken s (head .loop .t) (head .loop .at) (head .loop .inv) (in-bytes told) e _ (taken-here told) stands)
+    rw (c .size-of .ensures .0) (taken (bytes e) (head .loop .t) (head .loop .at) (head .loop .inv) (in-bytes e) (entry e) _ (taken-here e) stands)
 
 -- at an entry that is refused: the same
 abbrev refused-head : tie.After-struct-known Inv-loop μ-loop → tie.At-loop Inv-loop μ-loop
@@ -177,8 +174,6 @@ read-spec =
     (λ c. search needs)
     mul-e
     element-set-from-e
-    (λ c κs. search needs)
-    (λ c κs. search needs)
     (λ c. search needs)
     mul-e-2
     element-set-from-e-2
