@@ -37,15 +37,6 @@ pub neither : (p q : Bool) → (p || q) ≡ false → (p ≡ false) × (q ≡ fa
 neither true q e = never e
 neither false q e = (refl, e)
 
--- false beside another part
-pub and-false : (p : Bool) → (p && false) ≡ false
-and-false true = refl
-and-false false = refl
-
-pub or-false : (p : Bool) → (p || false) ≡ p
-or-false true = refl
-or-false false = refl
-
 -- a test at the four decisions, and at the two orders
 abbrev pub every : (Decision → Bool) → Bool
 every p = (p U && p D) && (p G && p C)

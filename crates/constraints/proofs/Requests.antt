@@ -2,12 +2,12 @@
 -- the facts with every other predicate no are; and with all their predicates known none waits.
 -- Assumes nothing.
 use mathlib.Core.Path.{_≡_, refl, sym, _∙_}
-use mathlib.Core.Bool.{Bool, true, false, not}
+use mathlib.Core.Bool.{Bool, true, false, not, and-false}
 use mathlib.Core.List.{List, [], _∷_}
 use Prim.Native.Nat.{ℕ, suc, _≤_, _<_}
 use native.Mathlib.Omega.{arith}
 use borrow.Author.Tests.{not-true}
-use Rattle.belnap.proofs.Finite.{never, both-parts, and-false, or-part, neither}
+use Rattle.belnap.proofs.Finite.{never, both-parts, or-part, neither}
 use Rattle.kinds.specs.declared.ConstraintKind.{ConstraintKind}
 use Rattle.kinds.specs.declared.ConstraintKind.the-variants.{NeverBoth, OnlyIf}
 use Rattle.kinds.specs.Kinds.{asConstraint}

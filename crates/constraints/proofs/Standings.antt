@@ -1,13 +1,13 @@
 -- How known facts stand to a constraint, by each case; and to constraints, one after the other as the loop takes them.
 -- Assumes nothing.
 use mathlib.Core.Path.{_≡_, refl, sym, ap, ap₂, _∙_}
-use mathlib.Core.Bool.{Bool, true, false, cond, _||_}
+use mathlib.Core.Bool.{Bool, true, false, cond, _||_, or-false}
 use mathlib.Core.List.{List}
 use Prim.Native.Nat.{ℕ, _+_, _<_}
 use native.Mathlib.Omega.{arith}
 use lib.ListN.{length, getD, take}
 use lib.Seq.{take-length}
-use Rattle.belnap.proofs.Finite.{or-right, or-false}
+use Rattle.belnap.proofs.Finite.{or-right}
 use Rattle.kinds.specs.declared.ConstraintKind.{ConstraintKind}
 use Rattle.kinds.specs.declared.ConstraintKind.the-variants.{NeverBoth, OnlyIf}
 use Rattle.kinds.specs.declared.Kind.{Kind}

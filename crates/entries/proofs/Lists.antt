@@ -1,14 +1,14 @@
 -- Whether some element of a list is so: by its parts, and element by element as a loop looks for one.
 -- Assumes nothing.
 use mathlib.Core.Path.{_≡_, refl, ap, ap₂, _∙_}
-use mathlib.Core.Bool.{Bool, true, false, _||_}
+use mathlib.Core.Bool.{Bool, true, false, _||_, or-false}
 use mathlib.Core.List.{List, [], _∷_, _++_}
 use Prim.Native.Nat.{ℕ, zero, suc, _+_, _<_}
 use native.Mathlib.Omega.{arith}
 use native.Mathlib.Numerals.{add-one}
 use lib.ListN.{length, getD, take}
 use lib.Seq.{take-suc}
-use Rattle.belnap.proofs.Finite.{or-left, or-right, or-false, neither}
+use Rattle.belnap.proofs.Finite.{or-left, or-right, neither}
 use Rattle.entries.specs.Lists.{some}
 
 module _ {A : Type 0} (is : A → Bool) where

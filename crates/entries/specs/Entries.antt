@@ -7,7 +7,8 @@ use lib.Dec.{leb, eqb}
 use Rattle.belnap.specs.declared.Decision.the-variants.{U}
 use Rattle.kinds.specs.declared.RowKind.the-variants.{Always}
 use Rattle.kinds.specs.declared.Kind.{Kind}
-use Rattle.kinds.specs.declared.Kind.the-variants.{Row}
+use Rattle.kinds.specs.declared.ConstraintKind.the-variants.{NeverBoth}
+use Rattle.kinds.specs.declared.Kind.the-variants.{Row, Constraint}
 use Rattle.kinds.specs.declared.Names.{Names}
 use Rattle.kinds.specs.declared.Names.the-variants.{Nothing, Predicates, Rows, Questions}
 use Rattle.entries.specs.declared.Entry.{Entry}
@@ -46,6 +47,10 @@ sizeLimit = 3
 -- how many bytes of a body belong to an entry of a kind
 abbrev pub bodySize : Kind → ℕ
 bodySize kind = formOf kind .numbers
+
+-- how many bytes a constraint has, of either kind
+abbrev pub constraintSize : ℕ
+constraintSize = bodySize (Constraint NeverBoth) + 1
 
 -- what stands past the end of a list of entries: always u
 abbrev pub blank : Entry

@@ -1,8 +1,9 @@
 -- The refusals by their numbers (01, "When we say no"; 02, L2 and L5).
 use Prim.Native.Nat.{ℕ}
-use mathlib.Core.Bool.{Bool, false, cond, _||_}
+use mathlib.Core.Bool.{Bool, false, cond}
 use mathlib.Core.List.{List, [], _∷_}
 use lib.Dec.{eqb}
+use Rattle.entries.specs.Lists.{some}
 
 -- "kind not listed"
 abbrev pub unlisted : ℕ
@@ -81,5 +82,4 @@ ofSpelling = unknownWord ∷ misspelt ∷ []
 
 -- whether a number stands in a list
 abbrev pub isAmong : List ℕ → ℕ → Bool
-isAmong [] n = false
-isAmong (m ∷ more) n = eqb n m || isAmong more n
+isAmong ns n = some (eqb n) ns

@@ -17,7 +17,7 @@ use Rattle.lookup.specs.declared.Part.{Part}
 use Rattle.lookup.specs.declared.Place.the-variants.{At, Missing}
 use Rattle.entries.specs.Refusals.{notThere, ifMissing}
 use Rattle.entries.specs.Said.{Said, answered, refusing, refusal, unless}
-use Rattle.entries.specs.Entries.{blank, sizeLimit, sizeOf, bytesOf}
+use Rattle.entries.specs.Entries.{blank, sizeOf, constraintSize, bytesOf}
 use Rattle.entries.proofs.Saying.{not-both}
 use Rattle.table.specs.Steps.{rowLimit}
 use Rattle.table.specs.Contents.{Contents, written}
@@ -52,14 +52,14 @@ unfolding placeOf
 place-missing c r h = rw (le-leb _ _ h)
 
 -- the part, from the struct of an accepted table
-pub found-part : (c : Contents) → Whole c → (r start n : ℕ) → r < length (c .rows) →
-    start ≡ sizeLimit * length (c .constraints) + length (written (take r (tableOf c .rows))) →
+pub found-part : (c : Contents) → Whole c → (r each start n : ℕ) → r < length (c .rows) → each ≡ constraintSize →
+    start ≡ each * length (c .constraints) + length (written (take r (tableOf c .rows))) →
     n ≡ sizeOf (getD (tableOf c .rows) r blank) → _≡_ {A = Part} (record { start = start; length = n }) (partOf r c)
 unfolding tableOf
-found-part c w r start n h p q =
+found-part c w r each start n h k p q =
     let front = padded-front blank rowLimit (c .rows) r (omega arith) in
     let at = padded-at blank rowLimit (c .rows) r in
-    rw (p, q, front, at, start-is c r h, constraint-bytes 0 (c .constraints) (w .constraints-sound))
+    rw (p, k, q, front, at, start-is c r h, constraint-bytes 0 (c .constraints) (w .constraints-sound))
 
 -- what a place tells of the reading
 pub place-tells : (x : Said Contents) (r : ℕ) (part : Part) → placeOf x r ≡ answered part →

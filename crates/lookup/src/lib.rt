@@ -1,6 +1,8 @@
 // One row out of a table's bytes: where it stands, the row's own part of the slice, and why there is none.
 use entries::refusals;
 use entries::refusals::Refusal;
+use kinds::ConstraintKind;
+use kinds::Kind;
 use table::Outcome;
 use table::Table;
 ghost use mathlib.Core.Path.{_≡_};
@@ -56,8 +58,9 @@ pub fn find(table: &[u8], row: u32) -> Place
         return Place::Missing(Refusal::of(refusals::NOT_THERE));
     }
     let e = t.rows[at];
-    // each constraint has as many bytes as an entry can have
-    let start = entries::LONGEST * t.tally.constraints + bytes_before(t, at);
+    // constraints have one size
+    let size = entries::body_size(Kind::Constraint(ConstraintKind::NeverBoth)) + 1;
+    let start = size * t.tally.constraints + bytes_before(t, at);
     let length = entries::size_of(e);
     Place::At(Part { start, length })
 }

@@ -1,6 +1,6 @@
 // Runs every case of the old desk's notebook (01) that is not marked P, through the services, and prints each with what came back;
-// then tables with a number that is not below its limit (02, L1), and cases of a row against itself (by 02's L3); then takes rows out of
-// tables, each as a part of the table, or with the companion's refusal.
+// then tables with a number that is not below its limit (02, L1), cases of a row against itself (by 02's L3), and tables with
+// constraints (02, L5); then takes rows out of tables, each as a part of the table, or with the companion's refusal.
 use libc::STDOUT_FILENO;
 
 // Table A; question 2 asks if row 2 is free of conflict.
@@ -236,6 +236,23 @@ fn against_itself() {
     );
 }
 
+// A breaking request that a constraint excludes, with another in its place and with none; a constraint behind a row.
+fn constrained() {
+    asks(
+        b"51 00 02 11 00 00 40 00 01, question 0",
+        b"\x51\x00\x02\x11\x00\x00\x40\x00\x01",
+        0,
+        6,
+    );
+    asks(
+        b"50 00 00 11 00 00 40 00 01, question 0",
+        b"\x50\x00\x00\x11\x00\x00\x40\x00\x01",
+        0,
+        3,
+    );
+    reads(b"00 50 00 01", b"\x00\x50\x00\x01");
+}
+
 fn rows_taken(a: &[u8]) {
     takes(b"A", a, 0);
     takes(b"A", a, 2);
@@ -244,6 +261,11 @@ fn rows_taken(a: &[u8]) {
     takes(b"A", a, 6);
     takes(b"00 40 00 00 00", b"\x00\x40\x00\x00\x00", 0);
     takes(b"00 30 00 05", b"\x00\x30\x00\x05", 0);
+    takes(
+        b"51 00 02 11 00 00 40 00 01",
+        b"\x51\x00\x02\x11\x00\x00\x40\x00\x01",
+        0,
+    );
 }
 
 fn main() {
@@ -258,6 +280,7 @@ fn main() {
     strike_cases();
     numbers_too_high();
     against_itself();
+    constrained();
     rows_taken(&a);
     takes(b"empty table", &zeros[..0], 0);
 }

@@ -1,4 +1,4 @@
--- What the definitions say of L5's examples (02), by computation: the reader's own check of them.
+-- What the definitions say of small tables with constraints (02, L5), by computation: the reader's own check of them.
 -- Assumes nothing.
 use mathlib.Core.Path.{_≡_, refl}
 use mathlib.Core.List.{List, [], _∷_}

@@ -6,8 +6,9 @@ use mathlib.Core.Path.{_≡_, refl, sym, ap, _∙_}
 use mathlib.Core.Bool.{true}
 use mathlib.Core.List.{List, [], _++_}
 use mathlib.Core.Option.{Option, none, some}
-use Prim.Native.Nat.{ℕ, suc, _+_, _-_, _^_, _≤_, _<_}
+use Prim.Native.Nat.{ℕ, suc, _+_, _-_, _^_, _≤_, _<_, max}
 use native.Mathlib.Omega.{arith}
+use native.Mathlib.Nat.{zero-max}
 use lib.ListN.{length, getD, take, drop}
 use lib.Seq.{take-append-seam}
 use lib.Dec.{leb}
@@ -21,7 +22,7 @@ use Rattle.entries.specs.declared.Entry.{Entry}
 use Rattle.entries.specs.Said.{answered}
 use Rattle.kinds.specs.Kinds.{asRow}
 use Rattle.entries.specs.Entries.{blank}
-use Rattle.table.specs.Contents.{Contents, predicates, others, written}
+use Rattle.table.specs.Contents.{Contents, highest, predicates, others, written}
 use Rattle.table.specs.Reading.{reading}
 use Rattle.entries.proofs.Numbers.{by-order}
 use Rattle.table.specs.Whole.{Whole}
@@ -68,6 +69,16 @@ pub decide-independent : (s : List ℕ) (c : Contents) → reading s ≡ answere
     decideAnswer s r m .refusal ≡ 0 → decideAnswer s r o .refusal ≡ 0 → decideAnswer s r m ≡ decideAnswer s r o
 decide-independent s c is r m o agree p q =
     decided s c is r m p .1 ∙ ap (λ (v : Decision). decidedOf (answered v)) (independent (c .rows) m o r agree) ∙ sym (decided s c is r o q .1)
+
+-- "decisions and sets are unchanged" (02, L5): they come from a table's rows alone, whatever constraints and questions stand beside them
+module _ (s t : List ℕ) (c d : Contents) (is : reading s ≡ answered c) (other : reading t ≡ answered d) (same : c .rows ≡ d .rows) where
+  pub decide-by-rows : (r request : ℕ) → decideAnswer s r request ≡ decideAnswer t r request
+  unfolding saysDecide
+  decide-by-rows r request = rw (is, other, same)
+
+  pub possible-by-rows : (r known request : ℕ) → possibleAnswer s r known request ≡ possibleAnswer t r known request
+  unfolding saysPossible
+  possible-by-rows r known request = rw (is, other, same)
 
 -- a reply, by what the walk found and whether its visits are within the budget
 pub by-reply : {P : Type 0} (b : ℕ) (vs : List Visit) (v : Verdict) → v ≡ repliedOf (replyOf b vs) →
@@ -132,12 +143,16 @@ module _ (s : List ℕ) (c : Contents) (is : reading s ≡ answered c) (q b : �
       (λ m w l v. ap (λ (v : Verdict). v .reply) v)
       (λ l v. absurd (enough (ap (λ (v : Verdict). v .reply) v)))
 
-  -- where a table has no constraint, the verdict is that of 01's own walk
-  pub unconstrained-verdict : c .constraints ≡ [] → answer ≡ repliedOf (replyOf b (walkPlainly (c .rows) (c .questions) n q))
+  -- where a table has no constraint, the verdict is that of 01's own walk, over the predicates of the rows
+  pub unconstrained-verdict : c .constraints ≡ [] →
+      answer ≡ repliedOf (replyOf b (walkPlainly (c .rows) (c .questions) (highest (c .rows)) q))
+  unfolding highest
   unconstrained-verdict empty =
+      let m = highest (c .rows) in
       replies s c is q b there
-      ∙ ap (λ (constraints : List Entry). repliedOf (replyOf b (walk constraints (c .rows) (c .questions) n q))) empty
-      ∙ ap (λ (vs : List Visit). repliedOf (replyOf b vs)) (unconstrained (c .rows) (c .questions) n q)
+      ∙ ap (λ (es : List Entry). repliedOf (replyOf b (walk es (c .rows) (c .questions) (max (highest es) m) q))) empty
+      ∙ ap (λ (n : ℕ). repliedOf (replyOf b (walk [] (c .rows) (c .questions) n q))) (zero-max m)
+      ∙ ap (λ (vs : List Visit). repliedOf (replyOf b vs)) (unconstrained (c .rows) (c .questions) m q)
 
 -- a row other than the struck one is there under its new number exactly if it was there
 module _ (c : Contents) (r : ℕ) (there : r < length (c .rows)) where
@@ -192,14 +207,15 @@ module _ (s out : List ℕ) (r : ℕ) (done : strikeAnswer s r out .refusal ≡ 
   strike-accepted c p = let was : of .contents ≡ c = cc (sym (of .is) ∙ p) in rw was at new-read
 
   -- "striking keeps them" (02, L5), the constraints: the new bytes begin with theirs, as the old ones do
-  pub strike-keeps-constraints : (c : Contents) → reading s ≡ answered c →
-      let front = length (written (c .constraints)) in (struck r c .constraints ≡ c .constraints) × (take front new ≡ take front s)
-  strike-keeps-constraints c p =
+  pub strike-keeps-constraints : (c d : Contents) → reading s ≡ answered c → reading new ≡ answered d →
+      let front = length (written (c .constraints)) in (d .constraints ≡ c .constraints) × (take front new ≡ take front s)
+  strike-keeps-constraints c d p q =
       let front = written (c .constraints) in
+      let same : d .constraints ≡ c .constraints = cc (sym q ∙ strike-accepted c p) in
       let begins : (t : List ℕ) (e : Contents) → reading t ≡ answered e → e .constraints ≡ c .constraints → take (length front) t ≡ front =
       λ t e is same. ap (take (length front)) (sym (of-accepted t e is .1) ∙ written-append (e .constraints) (others e)
       ∙ ap (λ (es : List Entry). written es ++ written (others e)) same) ∙ take-append-seam front (written (others e)) in
-      (refl, begins new (struck r c) (strike-accepted c p) refl ∙ sym (begins s c p refl))
+      (same, begins new d q same ∙ sym (begins s c p refl))
 
   -- one row fewer, and every question
   pub strike-counts : (readAnswer s .rows ≡ suc (readAnswer new .rows)) × (readAnswer new .questions ≡ readAnswer s .questions)

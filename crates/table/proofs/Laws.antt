@@ -19,7 +19,7 @@ use Rattle.entries.specs.declared.Entry.{Entry}
 use Rattle.table.specs.declared.steps.Tally.{Tally}
 use Rattle.entries.specs.Said.{answered}
 use Rattle.kinds.specs.Kinds.{formOf, isRow, isConstraint, asRow}
-use Rattle.entries.specs.Entries.{numbersOf, namesOf, sizeOf, sizeLimit, blank, bytesOf, uses, usedBy}
+use Rattle.entries.specs.Entries.{numbersOf, namesOf, bodySize, sizeOf, sizeLimit, constraintSize, blank, bytesOf, uses, usedBy}
 use Rattle.table.specs.Steps.{tally, predicateLimit, rowLimit, questionLimit, constraintLimit, limit, namedAt, fits}
 use Rattle.table.specs.Contents.{Contents, Covers, highest, predicates, entries, written, encoded}
 use Rattle.table.specs.Reading.{reading}
@@ -27,7 +27,7 @@ use Rattle.table.specs.Whole.{named}
 use Rattle.entries.proofs.OneEntry.{few, size, usedAt, used-by-both}
 use Rattle.table.proofs.Writing.{Sound, Each, each-get, of-accepted, ConstraintAt, RowAt, QuestionAt}
 
--- an entry has at most three bytes
+-- no entry has more bytes than the longest
 written-short : (es : List Entry) → length (written es) ≤ sizeLimit * length es
 unfolding written
 written-short [] = omega arith
@@ -35,17 +35,17 @@ written-short (e ∷ es) =
     let h = written-short es in
     omega (arith, length-append (bytesOf e) (written es), size e, few (e .kind), h)
 
--- and a constraint three
-constraint-size : (e : Entry) → isConstraint (e .kind) ≡ true → sizeOf e ≡ sizeLimit
+-- and constraints have one size
+constraint-size : (e : Entry) → isConstraint (e .kind) ≡ true → sizeOf e ≡ constraintSize
 constraint-size e h = size e ∙ ap suc (go (e .kind) h)
   where
-    go : (kind : Kind) → isConstraint kind ≡ true → formOf kind .numbers ≡ 2
+    go : (kind : Kind) → isConstraint kind ≡ true → formOf kind .numbers ≡ bodySize (Constraint NeverBoth)
     go (Row k) h = never (sym h)
     go (Question k) h = never (sym h)
     go (Constraint NeverBoth) h = refl
     go (Constraint OnlyIf) h = refl
 
-pub constraint-bytes : (i : ℕ) (es : List Entry) → Each ConstraintAt i es → length (written es) ≡ sizeLimit * length es
+pub constraint-bytes : (i : ℕ) (es : List Entry) → Each ConstraintAt i es → length (written es) ≡ constraintSize * length es
 unfolding written
 constraint-bytes i [] h = refl
 constraint-bytes i (e ∷ es) h =

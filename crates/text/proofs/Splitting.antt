@@ -62,8 +62,7 @@ behind-some sep s k l = rw (drop-cons s k 0 l)
 
 -- bytes without a separator
 abbrev pub free : ℕ → List ℕ → Bool
-free sep [] = true
-free sep (x ∷ l) = not (eqb x sep) && free sep l
+free sep l = every (λ x. not (eqb x sep)) l
 
 pub above-free : (sep low : ℕ) (l : List ℕ) → sep ≤ low → above low l ≡ true → free sep l ≡ true
 above-free sep low [] h a = refl

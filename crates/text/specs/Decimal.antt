@@ -3,6 +3,7 @@ use Prim.Native.Nat.{ℕ, zero, suc, _+_, _-_, _*_, _/_, _%_}
 use mathlib.Core.Bool.{Bool, true, false, cond, not, _&&_}
 use mathlib.Core.List.{List, [], _∷_, _++_}
 use lib.Dec.{eqb, leb, ltb}
+use Rattle.entries.specs.Lists.{every}
 use Rattle.entries.specs.Entries.{numberLimit}
 
 -- ten digits, whose bytes begin with that of 0
@@ -26,8 +27,7 @@ decimal n = digits (suc n) n
 
 -- "digits alone up to the next space or the line's end are a number, by value"
 abbrev pub digitsAlone : List ℕ → Bool
-digitsAlone [] = true
-digitsAlone (x ∷ more) = isDigit x && digitsAlone more
+digitsAlone piece = every isDigit piece
 
 abbrev pub valueFrom : ℕ → List ℕ → ℕ
 valueFrom n [] = n

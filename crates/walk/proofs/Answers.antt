@@ -3,7 +3,7 @@
 -- for, and then of the questions of a table.
 -- Assumes nothing.
 use mathlib.Core.Path.{_≡_, refl, sym, ap, subst, _∙_}
-use mathlib.Core.Bool.{Bool, true, false, cond, not, _&&_}
+use mathlib.Core.Bool.{Bool, true, false, cond, not, _&&_, and-false}
 use mathlib.Core.List.{List, [], _∷_, _++_, append-nil}
 use mathlib.Core.Option.{Option, none, some}
 use mathlib.Core.Logic.{⊎-elim}
@@ -12,7 +12,7 @@ use native.Mathlib.Omega.{arith}
 use native.Mathlib.Nat.{zero-add, suc-add}
 use borrow.Author.Tests.{not-true, not-false}
 use Rattle.belnap.specs.Decisions.{alike}
-use Rattle.belnap.proofs.Finite.{never, both-parts, and-false}
+use Rattle.belnap.proofs.Finite.{never, both-parts}
 use Rattle.entries.specs.declared.Entry.{Entry}
 use Rattle.table.specs.Contents.{Contents, highest, predicates, Covers}
 use Rattle.table.proofs.Laws.{covered}

@@ -36,7 +36,7 @@ fn look_of(t: u8) -> Look
     }
 }
 
-// What a visit sees by how its facts stand to the constraints: nothing where they break one; and a visit that found goes on while one waits.
+// What a visit sees by how its facts stand to the constraints: nothing where they break one; and a settled-false visit goes on while one waits.
 fn heed(standing: Standing, seen: Look) -> Look
     ensures { λ r. ⌜ r ≡ heeding standing seen ⌝ }
 {

@@ -33,6 +33,7 @@ pub fn cases() -> Vec<Case> {
         constrained_verdicts(),
         readings(),
         constrained_readings(),
+        most_constraints(),
         strikes(),
         entries(),
         outside_constraints(),
@@ -91,22 +92,29 @@ fn sets() -> Vec<Case> {
     Vec::from(expected.map(case))
 }
 
+const fn fails(request: u32, visits: u32) -> Verdict {
+    Verdict::Fails { request, visits }
+}
+
+const fn holds(visits: u32) -> Verdict {
+    Verdict::Holds { visits }
+}
+
 fn verdicts() -> Vec<Case> {
-    let fails = |request, visits| Verdict::Fails { request, visits };
     let expected = [
         (TABLE_A, 0, 1_000_000, fails(3, 5)),
-        (TABLE_A, 1, 1_000_000, Verdict::Holds { visits: 5 }),
+        (TABLE_A, 1, 1_000_000, holds(5)),
         (TABLE_A, 2, 1_000_000, fails(3, 5)),
         (TABLE_A, 2, 4, Verdict::Unfinished { budget: 4 }),
         (TABLE_A, 2, 5, fails(3, 5)),
         (STRIKING, 0, 1_000_000, fails(0, 1)),
         (STRIKING, 0, 0, Verdict::Unfinished { budget: 0 }),
         // L3: that a row is at or below itself is settled at the root.
-        ("11 00 40 00 00", 0, 1_000_000, Verdict::Holds { visits: 1 }),
-        ("11 17 41 00 00", 0, 1, Verdict::Holds { visits: 1 }),
+        ("11 00 40 00 00", 0, 1_000_000, holds(1)),
+        ("11 17 41 00 00", 0, 1, holds(1)),
         ("11 17 41 00 00 42 00", 1, 1, fails(0, 1)),
         // That it is at or below one that says the same is not.
-        ("11 00 11 00 40 00 01", 0, 1_000_000, Verdict::Holds { visits: 3 }),
+        ("11 00 11 00 40 00 01", 0, 1_000_000, holds(3)),
         // A question and itself have that question's walk.
         ("11 00 02 40 01 00 43 00 00", 1, 1_000_000, fails(0, 2)),
     ];
@@ -131,54 +139,54 @@ const BROKEN_BY_0_AND_1: &str = "11 00 11 01 30 00 01 00 40 02 03";
 const UNSETTLED_BY_0: &str = "11 00 20 00 20 01 40 00 02";
 
 /// Constraints, the rest of a table, and the verdict on its question 0.
+const CONSTRAINED: [(&str, &str, Verdict); 25] = [
+    // A request that is excluded, with another behind it and with none. The first goes on
+    // where predicate 0 is yes, settled false, until predicate 2 is known; where that is no,
+    // a visit finds nothing.
+    ("51 00 02", BROKEN_BY_0, fails(5, 6)),
+    ("50 00 00", BROKEN_BY_0, holds(3)),
+    // 51 the other way round: predicate 2 waits for 0, so the request stands.
+    ("51 02 00", BROKEN_BY_0, fails(1, 3)),
+    ("51 01 00", BROKEN_BY_1, fails(3, 7)),
+    ("51 00 01", BROKEN_BY_1, fails(2, 4)),
+    // Two predicates that are no break neither kind.
+    ("50 00 01 51 00 01", BROKEN_BY_1, fails(2, 4)),
+    // A settled-false visit does not wait for a "never both", nor for an "only if"
+    // whose first is no or unknown.
+    ("50 00 01", BROKEN_BY_0, fails(1, 3)),
+    ("51 01 02", BROKEN_BY_0, fails(1, 3)),
+    ("51 00 01", "02 00 40 00 01", fails(0, 1)),
+    // A settled-true visit does not wait.
+    ("51 00 01", UNSETTLED_BY_0, holds(3)),
+    // Nothing is below a visit that breaks a constraint, whatever its set.
+    ("50 00 00", BROKEN_BY_0_AND_1, holds(3)),
+    ("50 00 01", BROKEN_BY_0_AND_1, holds(5)),
+    ("50 00 00", UNSETTLED_BY_0, holds(3)),
+    // What an "only if" waits for is asked, and not taken to be yes.
+    ("51 00 01 50 01 01", BROKEN_BY_0, holds(5)),
+    ("51 00 01 50 00 01", BROKEN_BY_0, holds(5)),
+    ("51 00 02 50 02 01", BROKEN_BY_0, fails(5, 6)),
+    ("51 00 02 51 02 01", BROKEN_BY_0, fails(7, 9)),
+    // Chains: 0 needs 1, 1 needs 2, 2 needs 3; and back, where nothing waits.
+    ("51 00 01 51 01 02 51 02 03", BROKEN_BY_0, fails(15, 9)),
+    ("51 02 03 51 01 02 51 00 01", BROKEN_BY_0, fails(15, 9)),
+    ("51 01 00", BROKEN_BY_0_AND_1, fails(3, 5)),
+    // A constraint with one predicate twice.
+    ("51 00 00", BROKEN_BY_0, fails(1, 3)),
+    ("50 01 01", BROKEN_BY_0, fails(1, 3)),
+    // Only the request without a yes is left, and keeps the question or breaks it.
+    ("50 00 00 51 01 00", BROKEN_BY_1, holds(5)),
+    ("50 00 00 51 01 00", "11 01 02 40 01 00", fails(0, 3)),
+    // A predicate far beyond the row's.
+    ("51 00 17", BROKEN_BY_0, fails(1 << 23 | 1, 27)),
+];
+
 fn constrained_verdicts() -> Vec<Case> {
-    let fails = |request, visits| Verdict::Fails { request, visits };
-    let holds = |visits| Verdict::Holds { visits };
-    let expected = [
-        // The two of the request. The first goes on where predicate 0 is yes, settled
-        // false, until predicate 2 is known; where that is no, a visit finds nothing.
-        ("51 00 02", BROKEN_BY_0, fails(5, 6)),
-        ("50 00 00", BROKEN_BY_0, holds(3)),
-        // 51 the other way round: predicate 2 waits for 0, so the request stands.
-        ("51 02 00", BROKEN_BY_0, fails(1, 3)),
-        ("51 01 00", BROKEN_BY_1, fails(3, 7)),
-        ("51 00 01", BROKEN_BY_1, fails(2, 4)),
-        // Two predicates that are no break neither kind.
-        ("50 00 01 51 00 01", BROKEN_BY_1, fails(2, 4)),
-        // A settled-false visit does not wait for a "never both", nor for an "only if"
-        // whose first is no or unknown.
-        ("50 00 01", BROKEN_BY_0, fails(1, 3)),
-        ("51 01 02", BROKEN_BY_0, fails(1, 3)),
-        ("51 00 01", "02 00 40 00 01", fails(0, 1)),
-        // A settled-true visit does not wait.
-        ("51 00 01", UNSETTLED_BY_0, holds(3)),
-        // Nothing is below a visit that breaks a constraint, whatever its set.
-        ("50 00 00", BROKEN_BY_0_AND_1, holds(3)),
-        ("50 00 01", BROKEN_BY_0_AND_1, holds(5)),
-        ("50 00 00", UNSETTLED_BY_0, holds(3)),
-        // What an "only if" waits for is asked, and not taken to be yes.
-        ("51 00 01 50 01 01", BROKEN_BY_0, holds(5)),
-        ("51 00 01 50 00 01", BROKEN_BY_0, holds(5)),
-        ("51 00 02 50 02 01", BROKEN_BY_0, fails(5, 6)),
-        ("51 00 02 51 02 01", BROKEN_BY_0, fails(7, 9)),
-        // Chains: 0 needs 1, 1 needs 2, 2 needs 3; and back, where nothing waits.
-        ("51 00 01 51 01 02 51 02 03", BROKEN_BY_0, fails(15, 9)),
-        ("51 02 03 51 01 02 51 00 01", BROKEN_BY_0, fails(15, 9)),
-        ("51 01 00", BROKEN_BY_0_AND_1, fails(3, 5)),
-        // A constraint with one predicate twice.
-        ("51 00 00", BROKEN_BY_0, fails(1, 3)),
-        ("50 01 01", BROKEN_BY_0, fails(1, 3)),
-        // Only the request without a yes is left, and keeps the question or breaks it.
-        ("50 00 00 51 01 00", BROKEN_BY_1, holds(5)),
-        ("50 00 00 51 01 00", "11 01 02 40 01 00", fails(0, 3)),
-        // A predicate far beyond the row's.
-        ("51 00 17", BROKEN_BY_0, fails(1 << 23 | 1, 27)),
-    ];
     let case = |(constraints, rest, verdict)| {
         let call = Call::Verdict { question: 0, budget: u32::MAX };
         (hex(&format!("{constraints} {rest}")), call, Answer::Verdict(verdict))
     };
-    let mut cases = Vec::from(expected.map(case));
+    let mut cases = Vec::from(CONSTRAINED.map(case));
     for (budget, verdict) in [(5, Verdict::Unfinished { budget: 5 }), (6, fails(5, 6))] {
         let call = Call::Verdict { question: 0, budget };
         cases.push((hex("51 00 02 11 00 00 40 00 01"), call, Answer::Verdict(verdict)));
@@ -217,35 +225,45 @@ fn readings() -> Vec<Case> {
 }
 
 fn constrained_readings() -> Vec<Case> {
+    let expected = [
+        // They are no rows and no questions, but n counts their predicates.
+        ("50 00 01", counts(0, 0, 2)),
+        ("51 05 02", counts(0, 0, 6)),
+        ("51 02 17", counts(0, 0, 24)),
+        ("50 17 00", counts(0, 0, 24)),
+        ("50 17 17 51 17 17", counts(0, 0, 24)),
+        ("50 03 01 11 02", counts(1, 0, 4)),
+        ("51 00 02 11 05 00 40 00 01", counts(2, 1, 6)),
+        // The first number that is no predicate.
+        ("50 18 00", refused(3, 1)),
+        ("50 00 18", refused(3, 2)),
+        ("51 18 18", refused(3, 1)),
+        ("51 17 FF", refused(3, 2)),
+        ("51 00 00 50 00 18", refused(3, 5)),
+        // Cut short, before that.
+        ("50", refused(2, 0)),
+        ("51 18", refused(2, 0)),
+        ("50 00 00 51 00", refused(2, 3)),
+        // Behind a row or a question, before that.
+        ("00 50 00 00", refused(5, 1)),
+        ("00 51 18 18", refused(5, 1)),
+        ("00 51", refused(5, 1)),
+        ("00 40 00 00 50 00 00", refused(5, 4)),
+        ("51 00 00 00 40 00 00 51 00", refused(5, 7)),
+        ("51 00 00 00 40 00 00 00", refused(5, 7)),
+        // Beside their kinds.
+        ("4F", refused(1, 0)),
+        ("52 00 00", refused(1, 0)),
+        ("50 00 00 42 00", refused(4, 4)),
+    ];
+    Vec::from(expected.map(|(table, answer)| (hex(table), Call::Read, answer)))
+}
+
+/// As many constraints as there may be, and one more.
+fn most_constraints() -> Vec<Case> {
     let most = hex("50 00 01").repeat(CONSTRAINTS);
     let behind_most = |line| [&most[..], &hex(line)].concat();
     let expected = [
-        // They are no rows and no questions, but n counts their predicates.
-        (hex("50 00 01"), counts(0, 0, 2)),
-        (hex("51 05 02"), counts(0, 0, 6)),
-        (hex("51 02 17"), counts(0, 0, 24)),
-        (hex("50 17 00"), counts(0, 0, 24)),
-        (hex("50 17 17 51 17 17"), counts(0, 0, 24)),
-        (hex("50 03 01 11 02"), counts(1, 0, 4)),
-        (hex("51 00 02 11 05 00 40 00 01"), counts(2, 1, 6)),
-        // The first number that is no predicate.
-        (hex("50 18 00"), refused(3, 1)),
-        (hex("50 00 18"), refused(3, 2)),
-        (hex("51 18 18"), refused(3, 1)),
-        (hex("51 17 FF"), refused(3, 2)),
-        (hex("51 00 00 50 00 18"), refused(3, 5)),
-        // Cut short, before that.
-        (hex("50"), refused(2, 0)),
-        (hex("51 18"), refused(2, 0)),
-        (hex("50 00 00 51 00"), refused(2, 3)),
-        // Behind a row or a question, before that.
-        (hex("00 50 00 00"), refused(5, 1)),
-        (hex("00 51 18 18"), refused(5, 1)),
-        (hex("00 51"), refused(5, 1)),
-        (hex("00 40 00 00 50 00 00"), refused(5, 4)),
-        (hex("51 00 00 00 40 00 00 51 00"), refused(5, 7)),
-        (hex("51 00 00 00 40 00 00 00"), refused(5, 7)),
-        // As many as there may be, and one more.
         (most.clone(), counts(0, 0, 2)),
         (behind_most("00 40 00 00"), counts(1, 1, 2)),
         (behind_most("50 00 01"), refused(14, 96)),
@@ -258,10 +276,6 @@ fn constrained_readings() -> Vec<Case> {
         (behind_most("00 40 00 00 50"), refused(5, 100)),
         (most[3..].to_vec(), counts(0, 0, 2)),
         ([&most[3..], &hex("51 00 17")].concat(), counts(0, 0, 24)),
-        // Beside their kinds.
-        (hex("4F"), refused(1, 0)),
-        (hex("52 00 00"), refused(1, 0)),
-        (hex("50 00 00 42 00"), refused(4, 4)),
     ];
     Vec::from(expected.map(|(table, answer)| (table, Call::Read, answer)))
 }

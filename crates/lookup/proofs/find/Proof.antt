@@ -1,13 +1,13 @@
 -- That `find` (src/lib.rt) keeps its promise.
 use mathlib.Core.Path.{_≡_, ap, ap₂, _∙_}
 use mathlib.Core.List.{List}
-use Prim.Native.Nat.{ℕ, _+_, _*_}
+use Prim.Native.Nat.{ℕ, _+_, _*_, _<_}
 use native.Mathlib.Omega.{arith}
 use lib.ListN.{length, getD, take}
 use Rattle.entries.specs.declared.Entry.{Entry}
 use Rattle.table.specs.declared.Table.{Table}
 use Rattle.lookup.specs.declared.Place.the-variants.{At}
-use Rattle.entries.specs.Entries.{blank, sizeLimit, sizeOf}
+use Rattle.entries.specs.Entries.{blank, sizeOf}
 use Rattle.table.specs.Steps.{rowLimit}
 use Rattle.table.specs.Contents.{written}
 use Rattle.table.specs.Reading.{tableOf}
@@ -52,34 +52,48 @@ returns-2 c =
 element-copy-out-e : tie.Need-element-copy-out-e
 element-copy-out-e c = omega (arith, rw (used (c .before .before)) at (c .if1 .left), open-at (c .before .before) .whole .rows-fit)
 
+add-size : tie.Need-add-size
+add-size c = record { fits = omega (arith, c .body-size .ensures .1) }
+
+-- where the row is there and the size of a constraint is known
+abbrev there-at : tie.After-body-size → tie.After-enum-told
+there-at c = c .before .before .before .before
+
+fewer : (c : tie.After-body-size) → row-at (there-at c) < length (open-at (there-at c) .contents .rows)
+fewer c = rw (used (there-at c)) at (c .before .before .if1 .left)
+
 mul-start : tie.Need-mul-start
-mul-start c = let told = c .before .before .before in record { fits = omega (arith, bound told, open-at told .whole .constraints-fit) }
+mul-start c =
+    let told = there-at c in
+    record { fits = rw (c .body-size .ensures .0) (omega (arith, bound told, open-at told .whole .constraints-fit)) }
 
 bytes-before-requires : tie.Need-bytes-before-requires
 unfolding tableOf
 bytes-before-requires c κs =
-    let told = c .before .before .before in
-    let o = open-at told in
+    let o = open-at (there-at c) in
     let long = padded-length blank rowLimit (o .contents .rows) (o .whole .rows-fit) in
-    (omega (arith, rw (used told) at (c .before .if1 .left), o .whole .rows-fit), omega (arith, long, ap (λ (t : Table). length (t .rows)) (o .table)))
+    (omega (arith, fewer c, o .whole .rows-fit), omega (arith, long, ap (λ (t : Table). length (t .rows)) (o .table)))
 
 add-start : tie.Need-add-start
 add-start c =
-    let told = c .before .before .before .before in
-    record { fits = omega (arith, bound told, open-at told .whole .constraints-fit, c .bytes-before .ensures .1) }
+    let told = there-at (c .before) in
+    let few = open-at told .whole .constraints-fit in
+    record { fits = rw (c .before .body-size .ensures .0) (omega (arith, bound told, few, c .bytes-before .ensures .1)) }
 
 returns-3 : tie.Need-returns-3
 unfolding shownPlace
 returns-3 c =
-    let told = c .before .before .before .before .before in
+    let sized = c .before .before in
+    let told = there-at sized in
     let row = row-at told in
     let o = open-at told in
     let rows = ap (λ (t : Table). t .rows) (o .table) in
     let before = c .before .bytes-before .ensures .0 ∙ ap (λ (es : List Entry). length (written (take row es))) rows in
-    let start = ap₂ (λ (n m : ℕ). sizeLimit * n + m) (bound told) before in
+    let each = ap (λ (n : ℕ). n + 1) (sized .body-size .ensures .0) in
+    let start = ap₂ (λ (n m : ℕ). (sized .body-size .result + 1) * n + m) (bound told) before in
     let size = c .size-of .ensures .0 ∙ ap (λ (es : List Entry). sizeOf (getD es row blank)) rows in
-    let there = rw (used told) at (c .before .before .before .if1 .left) in
-    rw (o .is, place-there (o .contents) row there) (ap At (found-part (o .contents) (o .whole) row _ (c .size-of .result) there start size))
+    rw (o .is, place-there (o .contents) row (fewer sized))
+    (ap At (found-part (o .contents) (o .whole) row _ _ (c .size-of .result) (fewer sized) each start size))
 
 pub find-spec : {M : Type 1} → statement M
 find-spec =
@@ -93,6 +107,8 @@ find-spec =
     returns-2
     (λ c. search needs)
     element-copy-out-e
+    (λ c κs. search needs)
+    add-size
     mul-start
     bytes-before-requires
     add-start

@@ -45,7 +45,7 @@ next : (c : tie.After-put Inv-loop μ-loop) → let t = start (at-head c) .args 
     getD (t .constraints) (at-head c .loop .i) blank ≡ getD (contentsIn t .constraints) (at-head c .loop .i) blank
 next c =
     let t = start (at-head c) .args .t1 in
-    sym (upTo-at (t .constraints) (t .tally .constraints) (at-head c .loop .i) (c .before .before .before .loop-test .taken))
+    sym (upTo-at (t .constraints) (t .tally .constraints) (at-head c .loop .i) (omega (arith, c .before .before .before .loop-test .taken)))
 
 add-end : tie.Need-add-end Inv-loop μ-loop
 add-end c =
