@@ -18,7 +18,7 @@ never e = absurd (let z : _≡_ {A = ℕ} 0 1 = cc in omega arith)
 -- a conjunction that is true has both parts true
 pub both-parts : (p q : Bool) → (p && q) ≡ true → (p ≡ true) × (q ≡ true)
 both-parts true q e = (refl, e)
-both-parts false q e = absurd (let z : _≡_ {A = ℕ} 0 1 = cc in omega arith)
+both-parts false q e = never (sym e)
 
 -- a disjunction is true if a part is, and then has a part that is
 pub or-left : (p q : Bool) → p ≡ true → (p || q) ≡ true

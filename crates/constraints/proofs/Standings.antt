@@ -4,10 +4,9 @@ use mathlib.Core.Path.{_≡_, refl, sym, ap, ap₂, _∙_}
 use mathlib.Core.Bool.{Bool, true, false, cond, _||_, or-false}
 use mathlib.Core.List.{List}
 use Prim.Native.Nat.{ℕ, _+_, _<_}
-use native.Mathlib.Omega.{arith}
 use lib.ListN.{length, getD, take}
 use lib.Seq.{take-length}
-use Rattle.belnap.proofs.Finite.{or-right}
+use Rattle.belnap.proofs.Finite.{never, or-right}
 use Rattle.kinds.specs.declared.ConstraintKind.{ConstraintKind}
 use Rattle.kinds.specs.declared.ConstraintKind.the-variants.{NeverBoth, OnlyIf}
 use Rattle.kinds.specs.declared.Kind.{Kind}
@@ -61,12 +60,9 @@ module _ (known facts a b : ℕ) where
 -- what each outcome tells of the two tests
 pub standing-tells : (p q : Bool) → (standingBy p q ≡ Broken → p ≡ true) × (standingBy p q ≡ Waiting → (p ≡ false) × (q ≡ true)) ×
     (standingBy p q ≡ Kept → (p ≡ false) × (q ≡ false))
-standing-tells true q =
-    (λ e. refl, λ e. absurd (let z : _≡_ {A = ℕ} 0 1 = cc in omega arith), λ e. absurd (let z : _≡_ {A = ℕ} 0 1 = cc in omega arith))
-standing-tells false true =
-    (λ e. absurd (let z : _≡_ {A = ℕ} 0 1 = cc in omega arith), λ e. (refl, refl), λ e. absurd (let z : _≡_ {A = ℕ} 0 1 = cc in omega arith))
-standing-tells false false =
-    (λ e. absurd (let z : _≡_ {A = ℕ} 0 1 = cc in omega arith), λ e. absurd (let z : _≡_ {A = ℕ} 0 1 = cc in omega arith), λ e. (refl, refl))
+standing-tells true q = (λ e. refl, λ e. never cc, λ e. never cc)
+standing-tells false true = (λ e. never cc, λ e. (refl, refl), λ e. never cc)
+standing-tells false false = (λ e. never cc, λ e. never cc, λ e. (refl, refl))
 
 -- a loop over constraints: those before broke none, and `waits` says whether one of them waits
 pub record Looked (constraints : List Entry) (known facts i : ℕ) (waits : Bool) : Type 0 where

@@ -10,7 +10,7 @@ use borrow.Author.Tests.{eqb-true, eq-eqb}
 use Rattle.belnap.specs.declared.Decision.{Decision}
 use Rattle.belnap.specs.declared.Decision.the-variants.{U}
 use Rattle.operators.specs.Operators.{one, two}
-use Rattle.belnap.proofs.Finite.{or-left, or-right, or-part}
+use Rattle.belnap.proofs.Finite.{never, or-left, or-right, or-part}
 use Rattle.kinds.specs.declared.RowKind.{RowKind}
 use Rattle.kinds.specs.declared.RowKind.the-variants.{Always, DenyIf, GrantIf, One, Two}
 use Rattle.kinds.specs.declared.Kind.the-variants.{Row}
@@ -54,7 +54,7 @@ independent rows m o = by-rows (λ r. Agree (reaches rows r) m o → decision ro
 -- a row reaches only predicates below an n that covers them
 row-below : (k : RowKind) (a b n p : ℕ) (s t : ℕ → Bool) → usedBy (formOf (Row k) .names) a ≤ n → (s p ≡ true → p < n) →
     (t p ≡ true → p < n) → reachBy k a s t p ≡ true → p < n
-row-below (Always v) a b n p s t u f g e = absurd (let z : _≡_ {A = ℕ} 0 1 = cc in omega arith)
+row-below (Always v) a b n p s t u f g e = never cc
 row-below DenyIf a b n p s t u f g e = omega (arith, eqb-true p a e)
 row-below GrantIf a b n p s t u f g e = omega (arith, eqb-true p a e)
 row-below (One op) a b n p s t u f g e = f e
@@ -67,7 +67,7 @@ reach-below rows n covers p = by-rows (λ r. reaches rows r p ≡ true → p < n
     let at : (x : ℕ) → getD (values reach nowhere rows r) x nowhere p ≡ true → p < n =
     λ x. by-order x r
     (λ h. rw (before-there reach nowhere rows r x h) (ih x h))
-    (λ h. rw (before-past reach nowhere rows r x h) (λ q. absurd (let z : _≡_ {A = ℕ} 0 1 = cc in omega arith))) in
+    (λ h. rw (before-past reach nowhere rows r x h) (λ q. never cc)) in
     row-below (asRow (e .kind)) (e .a) (e .b) n p _ _ (omega (arith, row-uses e, covers r)) (at (e .a)) (at (e .b)))
 
 -- "Predicates from n up may be given and change nothing."

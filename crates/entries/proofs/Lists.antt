@@ -45,5 +45,6 @@ module _ {A : Type 0} (is : A → Bool) where
       let q : take (i + 1) l ≡ take i l ++ (getD l i d ∷ []) = ap (λ (n : ℕ). take n l) (add-one i) ∙ take-suc l i d k in
       ap (some is) q ∙ some-append (take i l) (getD l i d ∷ []) ∙ ap (λ (p : Bool). some is (take i l) || p) (or-false (is (getD l i d)))
 
-  pub none-more : (l : List A) (d : A) (i : ℕ) → i < length l → some is (take i l) ≡ false → is (getD l i d) ≡ false → some is (take (i + 1) l) ≡ false
+  pub none-more : (l : List A) (d : A) (i : ℕ) → i < length l → some is (take i l) ≡ false → is (getD l i d) ≡ false →
+      some is (take (i + 1) l) ≡ false
   none-more l d i k h n = some-more l d i k ∙ ap₂ _||_ h n

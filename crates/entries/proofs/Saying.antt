@@ -2,14 +2,15 @@
 -- Assumes nothing.
 use mathlib.Core.Path.{_≡_, refl, sym}
 use mathlib.Core.Logic.{_⊎_, inl, inr}
-use Prim.Native.Nat.{ℕ, zero, suc, _-_}
+use Prim.Native.Nat.{ℕ, zero, suc}
 use native.Mathlib.Omega.{arith}
+use Rattle.belnap.proofs.Finite.{never}
 use Rattle.entries.specs.declared.refusals.Refusal.{Refusal}
 use Rattle.entries.specs.Said.{Said, answered, refusing, refusal, unless}
 
 -- an answer is no refusal
 pub not-both : {A P : Type 0} {v : A} {why : Refusal} → answered v ≡ refusing why → P
-not-both q = absurd (let z : _≡_ {A = ℕ} 0 1 = cc in omega arith)
+not-both q = never cc
 
 -- a refusal's number that may stop what is said: where it is 0, where it is not, and what an answer or a refusal tells of it
 pub unless-none : {A : Type 0} (n : ℕ) (x : Said A) → n ≡ 0 → unless n x ≡ x

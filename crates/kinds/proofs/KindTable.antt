@@ -24,7 +24,7 @@ use Rattle.kinds.specs.Kinds.{formOf, kinds, among, kindOf, isRow, isQue
 
 -- the kind among some that passes a test, passes it; and one that is found there has what all of these have
 pub among-passes : (passes : Kind → Bool) (l : List Kind) (kind : Kind) → among passes l ≡ Listed kind → passes kind ≡ true
-among-passes passes [] kind e = absurd (let z : _≡_ {A = ℕ} 0 1 = cc in omega arith)
+among-passes passes [] kind e = never cc
 among-passes passes (x ∷ l) kind e = go (passes x) refl e (among-passes passes l kind)
   where
     go : (b : Bool) → passes x ≡ b → cond b (Listed x) (among passes l) ≡ Listed kind → (among passes l ≡ Listed kind → passes kind ≡ true) →
@@ -37,7 +37,7 @@ all has [] = true
 all has (kind ∷ more) = has kind && all has more
 
 among-has : (passes has : Kind → Bool) (l : List Kind) (kind : Kind) → all has l ≡ true → among passes l ≡ Listed kind → has kind ≡ true
-among-has passes has [] kind h e = absurd (let z : _≡_ {A = ℕ} 0 1 = cc in omega arith)
+among-has passes has [] kind h e = never cc
 among-has passes has (x ∷ l) kind h e =
     let parts = both-parts (has x) (all has l) h in
     go (passes x) e (parts .0) (among-has passes has l kind (parts .1))

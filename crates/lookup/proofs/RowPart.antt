@@ -11,6 +11,7 @@ use lib.ListN.{length, getD, take, drop, length-append}
 use lib.Seq.{split-at, take-suc, take-at, drop-at}
 use lib.Dec.{leb}
 use borrow.Author.Tests.{leb-false, lt-leb, le-leb}
+use Rattle.belnap.proofs.Finite.{never}
 use Rattle.entries.specs.declared.refusals.Refusal.{Refusal}
 use Rattle.entries.specs.declared.Entry.{Entry}
 use Rattle.lookup.specs.declared.Part.{Part}
@@ -129,9 +130,9 @@ lent s r part q =
 pub at-part : (x : Said Part) (part : Part) → shownPlace x ≡ At part → x ≡ answered part
 unfolding shownPlace
 at-part (answered other) part q = cc
-at-part (refusing why) part q = absurd (let z : _≡_ {A = ℕ} 0 1 = cc in omega arith)
+at-part (refusing why) part q = never cc
 
 pub missing-part : (x : Said Part) (why : Refusal) → shownPlace x ≡ Missing why → x ≡ refusing why
 unfolding shownPlace
-missing-part (answered part) why q = absurd (let z : _≡_ {A = ℕ} 0 1 = cc in omega arith)
+missing-part (answered part) why q = never cc
 missing-part (refusing other) why q = cc

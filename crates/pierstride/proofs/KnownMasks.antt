@@ -5,6 +5,7 @@ use mathlib.Core.Bool.{Bool, true, false, not, _&&_, and-false}
 use Prim.Native.Nat.{ℕ, zero, suc, _+_, _<_}
 use native.Mathlib.Omega.{arith}
 use native.Mathlib.Numerals.{add-one}
+use Rattle.belnap.proofs.Finite.{never}
 use Rattle.belnap.specs.Orders.{onlyIf}
 use Rattle.entries.proofs.Numbers.{by-order}
 use Rattle.decide.specs.Meaning.{bit}
@@ -14,7 +15,7 @@ use Rattle.pierstride.specs.Masks.{knownBelow}
 unknown-yes : (y k : Bool) → (y && not k) ≡ true → onlyIf y k ≡ false
 unknown-yes true true e = sym e
 unknown-yes true false e = refl
-unknown-yes false k e = absurd (let z : _≡_ {A = ℕ} 0 1 = cc in omega arith)
+unknown-yes false k e = never cc
 
 known-yes : (y k : Bool) → (y && not k) ≡ false → onlyIf y k ≡ true
 known-yes true true e = refl

@@ -5,7 +5,6 @@ use mathlib.Core.Bool.{Bool, true, false, _&&_, _||_}
 use mathlib.Core.List.{List, [], _∷_, foldr}
 use mathlib.Core.Option.{none, some}
 use Prim.Native.Nat.{ℕ, zero, suc}
-use native.Mathlib.Omega.{arith}
 use lib.ListN.{getElem?}
 use borrow.Author.Tests.{eqb-true, eq-eqb}
 use Rattle.belnap.proofs.Finite.{both-parts, or-left, or-right, or-part, never}
@@ -13,7 +12,7 @@ use Rattle.possible.specs.Sets.{Finite, Set, Within, any, single, either
 
 -- nothing stands in an empty list
 pub none-stands : {P A : Type 0} {x : A} → none ≡ some x → P
-none-stands e = absurd (let z : _≡_ {A = ℕ} 0 1 = cc in omega arith)
+none-stands e = never cc
 
 -- any member passes a test if one does, and then there is one that does
 any-listed : {A : Type 0} (p : A → Bool) (l : List A) (i : ℕ) {x : A} → getElem? l i ≡ some x → p x ≡ true →

@@ -37,7 +37,8 @@ module _ (r : ℕ) (e : Entry) (n : names r e ≡ false) where
   second-other t = eqb-false (e .b) r (other-by (namesRow 1 e) (eqb (e .b) r) (parts .1) t)
 
   -- it keeps the rules where those rows do under their new numbers
-  pub lowered-sound : (part : Kind → Bool) (constraints rows fewer questions : ℕ) → ((x : ℕ) → x < rows → (x ≡ r → ⊥) → lower r x < fewer) →
+  pub lowered-sound : (part : Kind → Bool) (constraints rows fewer questions : ℕ) →
+      ((x : ℕ) → x < rows → (x ≡ r → ⊥) → lower r x < fewer) →
       Sound part (tally constraints rows questions) e → Sound part (tally constraints fewer questions) (lowered r e)
   lowered-sound part constraints rows fewer questions below =
       renamed-sound (lower r) part (tally constraints rows questions) (tally constraints fewer questions) refl e

@@ -136,7 +136,8 @@ module _ {es : List Entry} {before : List ℕ} {j at : ℕ} {out : List ℕ} (f 
       })
 
 -- what was written over the front: from its end on, the output is as it was at first
-first-written : (front first out : List ℕ) (n at : ℕ) → n ≡ length front → out ≡ front ++ drop n first → n ≤ at → drop at out ≡ drop at first
+first-written : (front first out : List ℕ) (n at : ℕ) → n ≡ length front → out ≡ front ++ drop n first → n ≤ at →
+    drop at out ≡ drop at first
 first-written front first out n at p q l =
     let more : at ≡ length front + (at - n) = omega arith in
     let back : n + (at - n) ≡ at = omega arith in

@@ -11,6 +11,7 @@ use lib.ListN.{length, getD, length-append}
 use lib.Seq.{getD-append-add}
 use lib.Dec.{ltb}
 use borrow.Author.Tests.{ltb-true, ltb-false, lt-ltb, le-ltb}
+use Rattle.belnap.proofs.Finite.{never}
 use Rattle.kinds.specs.declared.Kind.{Kind}
 use Rattle.kinds.specs.declared.Announced.{Announced}
 use Rattle.kinds.specs.declared.Announced.the-variants.{Listed, Unlisted}
@@ -54,11 +55,11 @@ unfolding decoded
 decodes k body e q = go (kindOf k) refl q
   where
     go : (a : Announced) → kindOf k ≡ a → decodedBy a body ≡ Full e → Decodes k body e
-    go Unlisted p q = absurd (let z : _≡_ {A = ℕ} 0 1 = cc in omega arith)
+    go Unlisted p q = never cc
     go (Listed kind) p q = cut (ltb (length body) (formOf kind .numbers)) refl
       where
         cut : (b : Bool) → ltb (length body) (formOf kind .numbers) ≡ b → Decodes k body e
-        cut true l = absurd (let c = sym (body-cut kind body (ltb-true _ _ l)) ∙ q in let z : _≡_ {A = ℕ} 0 1 = cc c in omega arith)
+        cut true l = never (cc (sym (body-cut kind body (ltb-true _ _ l)) ∙ q))
         cut false l =
             let w = ltb-false _ _ l in
             let c = sym (body-whole kind body w) ∙ q in
@@ -161,11 +162,11 @@ points-behind front s before n p =
 pub took : (x : Said Entry) (e : Entry) → shownStep x ≡ Took e → x ≡ answered e
 unfolding shownStep
 took (answered f) e q = cc
-took (refusing why) e q = absurd (let z : _≡_ {A = ℕ} 0 1 = cc in omega arith)
+took (refusing why) e q = never cc
 
 pub turned-away : (x : Said Entry) (why : Refusal) → shownStep x ≡ Bad why → x ≡ refusing why
 unfolding shownStep
-turned-away (answered f) why q = absurd (let z : _≡_ {A = ℕ} 0 1 = cc in omega arith)
+turned-away (answered f) why q = never cc
 turned-away (refusing other) why q = cc
 
 -- an entry that entered, and one that was kept out
@@ -180,9 +181,9 @@ entered e before more q = go (permitted e before) refl q
         let one = allowed-if e f before p .0 in
         let same : oneMore (f .kind) before ≡ more = cc in
         (p ∙ ap answered (sym one), sym same ∙ ap (λ (e : Entry). oneMore (e .kind) before) (sym one))
-    go (refusing why) p q = absurd (let z : _≡_ {A = ℕ} 0 1 = cc in omega arith)
+    go (refusing why) p q = never cc
 
 pub kept-out : (x : Said Entry) (before : Tally) (why : Refusal) → shownEntered before x ≡ Out why → x ≡ refusing why
 unfolding shownEntered
-kept-out (answered f) before why q = absurd (let z : _≡_ {A = ℕ} 0 1 = cc in omega arith)
+kept-out (answered f) before why q = never cc
 kept-out (refusing other) before why q = cc

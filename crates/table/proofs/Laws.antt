@@ -70,7 +70,8 @@ used-bound e before h =
     let second = number-bound (namesOf e) n 1 (e .b) before (parts .1) in
     omega (arith, used-by-both (namesOf e) n (e .a) (e .b) (few (e .kind)), first, second)
 
-highest-bound : (part : Kind → Bool) (before : ℕ → Tally) (i : ℕ) (es : List Entry) → Each (λ i. Sound part (before i)) i es → highest es ≤ predicateLimit
+highest-bound : (part : Kind → Bool) (before : ℕ → Tally) (i : ℕ) (es : List Entry) → Each (λ i. Sound part (before i)) i es →
+    highest es ≤ predicateLimit
 unfolding highest
 highest-bound part before i [] h = omega arith
 highest-bound part before i (e ∷ es) h =

@@ -3,7 +3,7 @@
 use mathlib.Core.Path.{_≡_, refl, sym, ap, _∙_}
 use mathlib.Core.List.{List}
 use Prim.Native.Nat.{ℕ}
-use native.Mathlib.Omega.{arith}
+use Rattle.belnap.proofs.Finite.{never}
 use Rattle.table.specs.declared.Reading.{Reading}
 use Rattle.table.specs.declared.Outcome.the-variants.{Read, Refused}
 use Rattle.entries.specs.Said.{Said, answered, refusing, whyOf}
@@ -14,10 +14,10 @@ use Rattle.table.proofs.Writing.{Whole, of-accepted}
 -- what was said, from the outcome that shows it
 read-of : (x : Said Contents) → outcomeOf x ≡ Read → (c : Contents) × (x ≡ answered c)
 read-of (answered c) e = (c, refl)
-read-of (refusing why) e = absurd (let z : _≡_ {A = ℕ} 0 1 = cc in omega arith)
+read-of (refusing why) e = never cc
 
 refused-of : (x : Said Contents) → outcomeOf x ≡ Refused → x ≡ refusing (whyOf x)
-refused-of (answered c) e = absurd (let z : _≡_ {A = ℕ} 0 1 = cc in omega arith)
+refused-of (answered c) e = never cc
 refused-of (refusing why) e = refl
 
 -- a reading that says that it was read

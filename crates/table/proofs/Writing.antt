@@ -126,14 +126,14 @@ module _ (c : Contents) (w : Whole c) (e : Entry) (t : Tidy e) (a : Allowed (tal
   with-whole (Row r) p =
       let room = room-of (Row r) (tallyOf c) (rw p at (a .room)) in
       let so-far = tally (length (c .constraints)) in
-      let before : tallyOf c ≡ so-far (0 + length (c .rows)) 0 = ap (so-far (length (c .rows))) (room .1) ∙ from-zero (λ i. so-far i 0) (length (c .rows)) in
+      let n = length (c .rows) in
+      let before : tallyOf c ≡ so-far (0 + n) 0 = ap (so-far n) (room .1) ∙ from-zero (λ i. so-far i 0) n in
       record {
         constraints-fit = w .constraints-fit;
         rows-fit = omega (arith, length-append (c .rows) (e ∷ []), room .0);
         questions-fit = w .questions-fit;
         constraints-sound = w .constraints-sound;
-        rows-sound = each-more (RowAt (length (c .constraints))) 0 (c .rows) e (w .rows-sound)
-            (sound isRow (so-far (0 + length (c .rows)) 0) (rw p) before);
+        rows-sound = each-more (RowAt (length (c .constraints))) 0 (c .rows) e (w .rows-sound) (sound isRow (so-far (0 + n) 0) (rw p) before);
         questions-sound = rw (none-of (c .questions) (room .1)) tt;
       }
   with-whole (Question q) p =

@@ -40,7 +40,8 @@ module _ (constraints rows questions : List Entry) (n j : ℕ) where
       let whole : n - 0 ≡ n = omega arith in
       sym (rw whole at (ends-here (sees constraints rows questions j) n 0 0 budget Nothing root refl enough))
 
-  pub both-walked : asQuestion (e .kind) ≡ Both → e .a ≡ e .b → e .b < j → walk constraints rows questions n j ≡ walk constraints rows questions n (e .b)
+  pub both-walked : asQuestion (e .kind) ≡ Both → e .a ≡ e .b → e .b < j →
+      walk constraints rows questions n j ≡ walk constraints rows questions n (e .b)
   both-walked k q lower =
       ap (λ (see : ℕ → ℕ → Look). walkBy see n)
       (fun-ext (λ known. fun-ext (λ facts.

@@ -68,18 +68,18 @@ look-open (suc (suc (suc (suc n)))) h p q = absurd (omega arith)
 pub heeds-nothing : (s : Standing) (l : Look) → heeding s l ≡ Nothing → (s ≡ Broken) ⊎ (l ≡ Nothing)
 heeds-nothing Broken l e = inl refl
 heeds-nothing Waiting Nothing e = inr refl
-heeds-nothing Waiting Found e = absurd (let z : _≡_ {A = ℕ} 0 1 = cc in omega arith)
-heeds-nothing Waiting Open e = absurd (let z : _≡_ {A = ℕ} 0 1 = cc in omega arith)
+heeds-nothing Waiting Found e = never cc
+heeds-nothing Waiting Open e = never cc
 heeds-nothing Kept l e = inr e
 
 pub heeds-found : (s : Standing) (l : Look) → heeding s l ≡ Found → (s ≡ Kept) × (l ≡ Found)
-heeds-found Broken l e = absurd (let z : _≡_ {A = ℕ} 0 1 = cc in omega arith)
-heeds-found Waiting Nothing e = absurd (let z : _≡_ {A = ℕ} 0 1 = cc in omega arith)
-heeds-found Waiting Found e = absurd (let z : _≡_ {A = ℕ} 0 1 = cc in omega arith)
-heeds-found Waiting Open e = absurd (let z : _≡_ {A = ℕ} 0 1 = cc in omega arith)
+heeds-found Broken l e = never cc
+heeds-found Waiting Nothing e = never cc
+heeds-found Waiting Found e = never cc
+heeds-found Waiting Open e = never cc
 heeds-found Kept l e = (refl, e)
 
 pub heeds-open : (s : Standing) (l : Look) → heeding s l ≡ Open → (s ≡ Waiting) ⊎ (l ≡ Open)
-heeds-open Broken l e = absurd (let z : _≡_ {A = ℕ} 0 1 = cc in omega arith)
+heeds-open Broken l e = never cc
 heeds-open Waiting l e = inl refl
 heeds-open Kept l e = inr e

@@ -48,11 +48,11 @@ held-count r a b vs e h = rw h at (count-of r b vs e)
 -- where a reply holds, nothing was found
 held-nothing : (f : Option ℕ) (n c : ℕ) → ended f n ≡ Holds c → (f ≡ none) × (n ≡ c)
 held-nothing none n c e = (refl, cc)
-held-nothing (some m) n c e = absurd (let z : _≡_ {A = ℕ} 0 1 = cc in omega arith)
+held-nothing (some m) n c e = never cc
 
 holds-nothing : (b c : ℕ) (vs : List Visit) → replyOf b vs ≡ Holds c → (found vs ≡ none) × (length vs ≡ c)
 holds-nothing b c vs = either-way b vs (λ r. r ≡ Holds c → (found vs ≡ none) × (length vs ≡ c)) (λ h. held-nothing (found vs) (length vs) c)
-    (λ h e. absurd (let z : _≡_ {A = ℕ} 0 1 = cc in omega arith))
+    (λ h e. never cc)
 
 -- visits that found nothing, before others
 pub found-behind : (before vs : List Visit) → found before ≡ none → found (before ++ vs) ≡ found vs
@@ -63,7 +63,7 @@ found-behind (v ∷ before) vs e = go (v .seen) e (found-behind before vs)
     go : (l : Look) → foundAt l (v .facts) (found before) ≡ none → (found before ≡ none → found (before ++ vs) ≡ found vs) →
         foundAt l (v .facts) (found (before ++ vs)) ≡ found vs
     go Nothing e on = on e
-    go Found e on = absurd (let z : _≡_ {A = ℕ} 0 1 = cc in omega arith)
+    go Found e on = never cc
     go Open e on = on e
 
 plus-ended : (k b : ℕ) (f : Option ℕ) (n : ℕ) → plusOf (ended f n) k b ≡ ended f (k + n)

@@ -66,7 +66,8 @@ module _ (constraints rows questions : List Entry) (run asked : List ℕ) (m o s
         let truths-long = length-take-le (j + 1) truths h in
         (omega (arith, rows-long, sets-long), omega (arith, questions-long, truths-long), omega (arith, truths-long), omega (arith, all, sets-long))
 
-    run-sees : (known facts : ℕ) → sees constraints (entriesIn rowPart) (entriesIn questionPart) j known facts ≡ sees constraints rows questions j known facts
+    run-sees : (known facts : ℕ) →
+        sees constraints (entriesIn rowPart) (entriesIn questionPart) j known facts ≡ sees constraints rows questions j known facts
     run-sees known facts =
         let f = setOf known facts in
         let each : (r : ℕ) → r < seen → possible (entriesIn rowPart) known facts r ≡ possible rows known facts r =

@@ -5,6 +5,7 @@ use mathlib.Core.Path.{_≡_, refl, sym, _∙_}
 use mathlib.Core.Bool.{Bool, true, false, cond}
 use mathlib.Core.List.{List, [], _∷_, _++_, append-nil}
 use mathlib.Core.Option.{Option, none, some}
+use mathlib.Core.Logic.{⊎-elim}
 use Prim.Native.Nat.{ℕ, _+_, _-_, _^_, _≤_}
 use native.Mathlib.Omega.{arith}
 use lib.ListN.{length, length-append}
@@ -22,7 +23,7 @@ use Rattle.constraints.specs.declared.Standing.the-variants.{Broken, Waiting, K
 use Rattle.constraints.specs.Constraints.{standing}
 use Rattle.walk.specs.Walk.{Visit, look, heeding, foundAt, found, ifNone, orElse, below, visitsFrom, predicatesFrom, sees, walk}
 use Rattle.walk.specs.Twice.{seesTwice, walkTwice}
-use Rattle.walk.proofs.Looks.{settled-within}
+use Rattle.walk.proofs.Looks.{settled-within, heeds-nothing, heeds-found}
 use Rattle.walk.proofs.Budgets.{below-bound}
 use Rattle.walk.proofs.Answers.{Bounded, OnlyKnown, Begun, unknown, unsaid, begun-no, begun-yes, begun-all, less-no, less-yes, found-else, nothing-hit}
 use Rattle.walk.proofs.Answers.{breaks, nowhere as breaks-nowhere, there as breaks-there, settled-at-n}
@@ -34,15 +35,8 @@ Sharper l m = (b : Bool) → m ≡ cond b Nothing Found → l ≡ cond b Nothing
 -- and so it is where both heed constraints
 heeds-sharper : (s : Standing) (l m : Look) → Sharper l m → Sharper (heeding s l) (heeding s m)
 heeds-sharper Broken l m h b e = e
-heeds-sharper Waiting l Nothing h true e = rw (h true refl)
-heeds-sharper Waiting l m h false e = never-found m e
-  where
-    never-found : (m : Look) → heeding Waiting m ≡ Found → heeding Waiting l ≡ Found
-    never-found Nothing e = absurd (let z : _≡_ {A = ℕ} 0 1 = cc in omega arith)
-    never-found Found e = absurd (let z : _≡_ {A = ℕ} 0 1 = cc in omega arith)
-    never-found Open e = absurd (let z : _≡_ {A = ℕ} 0 1 = cc in omega arith)
-heeds-sharper Waiting l Found h true e = absurd (let z : _≡_ {A = ℕ} 0 1 = cc in omega arith)
-heeds-sharper Waiting l Open h true e = absurd (let z : _≡_ {A = ℕ} 0 1 = cc in omega arith)
+heeds-sharper Waiting l m h true e = ⊎-elim (λ broken. never cc) (λ nothing. rw (h true nothing)) (heeds-nothing Waiting m e)
+heeds-sharper Waiting l m h false e = let kept = heeds-found Waiting m e .0 in never cc
 heeds-sharper Kept l m h b e = h b e
 
 -- fewer visits below a visit, and fewer behind others

@@ -131,7 +131,8 @@ fn walk_from(
     budget: u32,
 ) -> Reply
     requires { ⌜ Lent (now rows) (now questions) (now sets) (now truths) question × (k ≤ n) × (n ≤ predicateLimit) × (facts < 2 ^ k) ⌝ }
-    ensures { λ r. ⌜ r ≡ replyOf budget (walkFrom (seesIn (now (constraints .entry)) (now (rows .entry)) (now (questions .entry)) question) n k facts) ⌝ }
+    ensures { λ r. ⌜ r ≡ replyOf budget
+        (walkFrom (seesIn (now (constraints .entry)) (now (rows .entry)) (now (questions .entry)) question) n k facts) ⌝ }
 {
     if budget == 0 {
         return Reply::Unfinished(0);

@@ -46,9 +46,10 @@ loop-again c =
 
 returns : tie.Need-returns Inv-loop μ-loop
 returns c =
-    let start = c .before .before in
-    let i : c .before .loop .i ≡ length (held (start .args .t1)) = omega (arith, held-length (start .args .t1), c .before .loop .inv .0, c .loop-test .left) in
-    c .before .loop .inv .1 ∙ ap length (text-all (held (start .args .t1)) (c .before .loop .i) i)
+    let now = c .before .loop in
+    let t = c .before .before .args .t1 in
+    let i : now .i ≡ length (held t) = omega (arith, held-length t, now .inv .0, c .loop-test .left) in
+    now .inv .1 ∙ ap length (text-all (held t) (now .i) i)
 
 pub text-size-spec : {M : Type 1} → statement M
 text-size-spec =

@@ -2,7 +2,6 @@
 use mathlib.Core.Path.{_≡_, sym, ap, _∙_}
 use native.Mathlib.Omega.{arith}
 use lib.ListN.{length}
-use Prim.Native.Nat.{ℕ}
 use Rattle.kinds.specs.declared.Announced.the-variants.{Listed, Unlisted}
 use Rattle.belnap.proofs.Finite.{never}
 use Rattle.kinds.specs.Words.{wordOf, same, kindSpelled}
@@ -44,7 +43,7 @@ returns-5 c =
     let w = guessed .before .before .before .before .args .w .now in
     sym (guessed-wrong w (guessed .guess .result) (guessed .guess .ensures)
     (λ kind k q. let other : Unlisted ≡ Listed kind = sym (c .enum-told .given .1) ∙ c .before .before .kind-of .ensures ∙ k in
-    absurd (let z : _≡_ {A = ℕ} 0 1 = cc in omega arith)))
+    never cc))
 
 pub kind-of-word-spec : {M : Type 1} → statement M
 kind-of-word-spec =
