@@ -15,7 +15,7 @@ use Rattle.operators.specs.declared.TwoRow.the-variants.{TruthMeet, TruthJoin, 
 use Rattle.operators.specs.declared.TwoRow.the-variants.{Guard, OverrideU, OverrideD, OverrideG, OverrideC}
 use Rattle.belnap.specs.declared.orders.Order.the-variants.{Truth, Knowledge}
 use Rattle.kinds.specs.declared.Kind.{Kind}
-use Rattle.kinds.specs.declared.Kind.the-variants.{Row, Question, Constraint}
+use Rattle.kinds.specs.declared.Kind.the-variants.{Row, Question, Constraint, Supplier}
 use Rattle.kinds.specs.declared.RowKind.the-variants.{Always, DenyIf, GrantIf, One, Two}
 use Rattle.kinds.specs.declared.QuestionKind.the-variants.{Compare, Not, Both}
 use Rattle.kinds.specs.declared.ConstraintKind.the-variants.{NeverBoth, OnlyIf}
@@ -97,6 +97,7 @@ kind-of-byte (Question Not) = refl
 kind-of-byte (Question Both) = refl
 kind-of-byte (Constraint NeverBoth) = refl
 kind-of-byte (Constraint OnlyIf) = refl
+kind-of-byte Supplier = refl
 
 -- what all kinds have, each has: so a law of the kinds is one computation
 pub each-kind : (has : Kind → Bool) → all has kinds ≡ true → (kind : Kind) → has kind ≡ true
@@ -125,13 +126,16 @@ pub is-row : (kind : Kind) → isRow kind ≡ true → kind ≡ Row (asRow kind)
 is-row (Row k) h = refl
 is-row (Question k) h = never (sym h)
 is-row (Constraint k) h = never (sym h)
+is-row Supplier h = never (sym h)
 
 pub is-question : (kind : Kind) → isQuestion kind ≡ true → kind ≡ Question (asQuestion kind)
 is-question (Row k) h = never (sym h)
 is-question (Question k) h = refl
 is-question (Constraint k) h = never (sym h)
+is-question Supplier h = never (sym h)
 
 pub is-constraint : (kind : Kind) → isConstraint kind ≡ true → kind ≡ Constraint (asConstraint kind)
 is-constraint (Row k) h = never (sym h)
 is-constraint (Question k) h = never (sym h)
 is-constraint (Constraint k) h = refl
+is-constraint Supplier h = never (sym h)

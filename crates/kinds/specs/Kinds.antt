@@ -1,4 +1,4 @@
--- The table of kinds (01, "The table, byte by byte"; 02, L5).
+-- The table of kinds (01, "The table, byte by byte"; 02, L5 and L6).
 use Prim.Native.Nat.{ℕ}
 use mathlib.Core.Bool.{Bool, true, false, cond}
 use mathlib.Core.List.{List, [], _∷_, _++_, map}
@@ -21,11 +21,11 @@ use Rattle.kinds.specs.declared.QuestionKind.the-variants.{Compare, Not,
 use Rattle.kinds.specs.declared.ConstraintKind.{ConstraintKind}
 use Rattle.kinds.specs.declared.ConstraintKind.the-variants.{NeverBoth, OnlyIf}
 use Rattle.kinds.specs.declared.Kind.{Kind}
-use Rattle.kinds.specs.declared.Kind.the-variants.{Row, Question, Constraint}
+use Rattle.kinds.specs.declared.Kind.the-variants.{Row, Question, Constraint, Supplier}
 use Rattle.kinds.specs.declared.Announced.{Announced}
 use Rattle.kinds.specs.declared.Announced.the-variants.{Listed, Unlisted}
 use Rattle.kinds.specs.declared.Names.{Names}
-use Rattle.kinds.specs.declared.Names.the-variants.{Nothing, Predicates, Rows, Questions}
+use Rattle.kinds.specs.declared.Names.the-variants.{Nothing, Predicates, Rows, Questions, Suppliers}
 use Rattle.kinds.specs.declared.Form.{Form}
 
 -- the bytes of the operators and of the two comparisons
@@ -67,6 +67,7 @@ formOf (Question Not) = formWith 0x42 1 Questions
 formOf (Question Both) = formWith 0x43 2 Questions
 formOf (Constraint NeverBoth) = formWith 0x50 2 Predicates
 formOf (Constraint OnlyIf) = formWith 0x51 2 Predicates
+formOf Supplier = formWith 0x60 1 Suppliers
 
 -- every kind there is
 abbrev pub rowKinds : List RowKind
@@ -79,7 +80,7 @@ abbrev pub constraintKinds : List ConstraintKind
 constraintKinds = NeverBoth ∷ OnlyIf ∷ []
 
 abbrev pub kinds : List Kind
-kinds = map Row rowKinds ++ map Question questionKinds ++ map Constraint constraintKinds
+kinds = map Row rowKinds ++ map Question questionKinds ++ map Constraint constraintKinds ++ Supplier ∷ []
 
 -- the first among these that passes a test
 abbrev pub among : (Kind → Bool) → List Kind → Announced
@@ -95,29 +96,40 @@ abbrev pub isRow : Kind → Bool
 isRow (Row k) = true
 isRow (Question k) = false
 isRow (Constraint k) = false
+isRow Supplier = false
 
 abbrev pub isQuestion : Kind → Bool
 isQuestion (Row k) = false
 isQuestion (Question k) = true
 isQuestion (Constraint k) = false
+isQuestion Supplier = false
 
 abbrev pub isConstraint : Kind → Bool
 isConstraint (Row k) = false
 isConstraint (Question k) = false
 isConstraint (Constraint k) = true
+isConstraint Supplier = false
 
 -- what is no row reads as always u; what is no question as 43, "both", of the questions with its numbers; what is no constraint as 51, "only if"
 abbrev pub asRow : Kind → RowKind
 asRow (Row k) = k
 asRow (Question k) = Always U
 asRow (Constraint k) = Always U
+asRow Supplier = Always U
 
 abbrev pub asQuestion : Kind → QuestionKind
 asQuestion (Row k) = Both
 asQuestion (Question k) = k
 asQuestion (Constraint k) = Both
+asQuestion Supplier = Both
 
 abbrev pub asConstraint : Kind → ConstraintKind
 asConstraint (Row k) = OnlyIf
 asConstraint (Question k) = OnlyIf
 asConstraint (Constraint k) = k
+asConstraint Supplier = OnlyIf
+
+-- whether a byte announces a row's kind
+abbrev pub ofRow : Announced → Bool
+ofRow (Listed kind) = isRow kind
+ofRow Unlisted = false

@@ -1,4 +1,4 @@
--- Each kind's word in the text of a table (02, L2 and L5), and the kind that a word spells.
+-- Each kind's word in the text of a table (02, L2, L5 and L6), and the kind that a word spells.
 use Prim.Native.Nat.{ℕ, zero, suc, _+_, _-_, _*_, _/_, _%_, _^_}
 use Prim.Native.Char.{code}
 use Prim.Native.String.{String, [] as nothing, _∷_ as _then_}
@@ -16,7 +16,7 @@ use Rattle.kinds.specs.declared.RowKind.the-variants.{Always, DenyIf, Gr
 use Rattle.kinds.specs.declared.QuestionKind.the-variants.{Compare, Not, Both}
 use Rattle.kinds.specs.declared.ConstraintKind.the-variants.{NeverBoth, OnlyIf}
 use Rattle.kinds.specs.declared.Kind.{Kind}
-use Rattle.kinds.specs.declared.Kind.the-variants.{Row, Question, Constraint}
+use Rattle.kinds.specs.declared.Kind.the-variants.{Row, Question, Constraint, Supplier}
 use Rattle.kinds.specs.declared.Announced.{Announced}
 use Rattle.kinds.specs.declared.words.Word.{Word}
 use Rattle.kinds.specs.Kinds.{formOf, kinds, among}
@@ -49,6 +49,7 @@ spelling (Question Not) = "not"
 spelling (Question Both) = "both"
 spelling (Constraint NeverBoth) = "never-both"
 spelling (Constraint OnlyIf) = "only-if"
+spelling Supplier = "supplier"
 
 -- a text's bytes: its letters stand for themselves
 abbrev pub bytes : String → List ℕ

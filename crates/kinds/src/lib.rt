@@ -32,10 +32,12 @@ pub enum ConstraintKind {
     OnlyIf,
 }
 
+// What an entry is. The last says whose the rows behind it are.
 pub enum Kind {
     Row(RowKind),
     Question(QuestionKind),
     Constraint(ConstraintKind),
+    Supplier,
 }
 
 // A kind byte is in the list, or it is not.
@@ -50,6 +52,7 @@ pub enum Names {
     Predicates,
     Rows,
     Questions,
+    Suppliers,
 }
 
 // A line of the table of kinds: the byte that announces a kind, how many numbers its body has, and what they name.
@@ -94,6 +97,10 @@ pub fn kind_of(byte: u8) -> Announced
         5 => match low {
             0 => Announced::Listed(Kind::Constraint(ConstraintKind::NeverBoth)),
             1 => Announced::Listed(Kind::Constraint(ConstraintKind::OnlyIf)),
+            _ => Announced::Unlisted,
+        },
+        6 => match low {
+            0 => Announced::Listed(Kind::Supplier),
             _ => Announced::Unlisted,
         },
         _ => Announced::Unlisted,
@@ -245,6 +252,7 @@ pub fn form_of(kind: Kind) -> Form
         Kind::Row(row) => row_form(row),
         Kind::Question(question) => question_form(question),
         Kind::Constraint(constraint) => constraint_form(constraint),
+        Kind::Supplier => line(0x60, 1, Names::Suppliers),
     }
 }
 
@@ -256,6 +264,7 @@ pub fn as_row(kind: Kind) -> RowKind
         Kind::Row(row) => row,
         Kind::Question(_) => RowKind::Always(Decision::U),
         Kind::Constraint(_) => RowKind::Always(Decision::U),
+        Kind::Supplier => RowKind::Always(Decision::U),
     }
 }
 
@@ -267,5 +276,6 @@ pub fn as_question(kind: Kind) -> QuestionKind
         Kind::Row(_) => QuestionKind::Both,
         Kind::Question(question) => question,
         Kind::Constraint(_) => QuestionKind::Both,
+        Kind::Supplier => QuestionKind::Both,
     }
 }

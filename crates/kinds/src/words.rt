@@ -168,6 +168,8 @@ pub fn word_of(kind: Kind) -> Word
         Kind::Row(row) => word_of_row(row),
         Kind::Question(question) => word_of_question(question),
         Kind::Constraint(constraint) => word_of_constraint(constraint),
+        // supplier
+        Kind::Supplier => lettered(0x737570706c696572, 0, 0, 8),
     }
 }
 
@@ -218,7 +220,7 @@ const GUESSES: [u8; 64] = [
     0x41,
     0x00,
     0x00,
-    0x00,
+    0x60,
     0x00,
     0x00,
     0x00,

@@ -2,7 +2,7 @@
 use Rattle.kinds.proofs.KindTable.{gap, past-three, always-kind}
 use Rattle.kinds.specs.Kinds.{kindOf}
 use native.Mathlib.Omega.{arith}
-use Prim.Native.Nat.{_+_, _%_}
+use Prim.Native.Nat.{_+_, _/_, _%_}
 use mathlib.Core.Path.{_≡_, refl, sym}
 use borrow.Author.Needs.{needs}
 use Rattle.kinds.proofs.kind_of.Statement.{statement}
@@ -73,16 +73,20 @@ returns-16 c =
     (omega (arith, c .before .match .keys6, c .match4 .rest .0 .1, c .match4 .rest .1)) (omega (arith, c .before .match .keys6)))
 
 returns-17 : tie.Need-returns-17
-returns-17 c =
-    sym (gap 0x60 0x100 (c .before .args .byte) refl (omega (
-      arith,
-      c .match .rest .0 .0 .0 .0 .0 .1,
-      c .match .rest .0 .0 .0 .0 .1,
-      c .match .rest .0 .0 .0 .1,
-      c .match .rest .0 .0 .1,
-      c .match .rest .0 .1,
-      c .match .rest .1,
-    )) (omega arith))
+unfolding kindOf
+returns-17 c = let q : c .before .before .args .byte ≡ 0x60 = omega arith in rw q
+
+returns-18 : tie.Need-returns-18
+returns-18 c =
+    sym (gap 0x61 0x70 (c .before .before .args .byte) refl (omega (arith, c .before .match .keys7, c .match5 .rest .1))
+    (omega (arith, c .before .match .keys7)))
+
+returns-19 : tie.Need-returns-19
+returns-19 c =
+    let none = c .match .rest in
+    let byte = c .before .args .byte in
+    let late = past-three (byte / 16) (none .0 .0 .0 .0 .0 .0 .1) (none .0 .0 .0 .0 .0 .1) (none .0 .0 .0 .0 .1) (none .0 .0 .0 .1) in
+    sym (gap 0x70 0x100 byte refl (omega (arith, late, none .0 .0 .1, none .0 .1, none .1)) (omega arith))
 
 pub kind-of-spec : {M : Type 1} → statement M
 kind-of-spec =
@@ -107,4 +111,6 @@ kind-of-spec =
     returns-14
     returns-15
     returns-16
-    returns-17)
+    returns-17
+    returns-18
+    returns-19)
