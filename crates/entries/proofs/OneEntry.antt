@@ -13,7 +13,7 @@ use Rattle.kinds.specs.declared.QuestionKind.the-variants.{Compare, Not, Both}
 use Rattle.kinds.specs.declared.Names.{Names}
 use Rattle.kinds.specs.declared.Kind.{Kind}
 use Rattle.kinds.specs.declared.ConstraintKind.the-variants.{NeverBoth, OnlyIf}
-use Rattle.kinds.specs.declared.Kind.the-variants.{Row, Question, Constraint}
+use Rattle.kinds.specs.declared.Kind.the-variants.{Row, Question, Constraint, Supplier}
 use Rattle.entries.specs.declared.Entry.{Entry}
 use Rattle.kinds.specs.Kinds.{formOf}
 use Rattle.entries.specs.Entries.{numbersOf, usedBy, highestOf, sizeOf, bytesOf, onto}
@@ -31,6 +31,7 @@ few (Question Not) = omega arith
 few (Question Both) = omega arith
 few (Constraint NeverBoth) = omega arith
 few (Constraint OnlyIf) = omega arith
+few Supplier = omega arith
 
 pub length-front : (n : ℕ) (a b : ℕ) → n < 3 → length (take n (a ∷ b ∷ [])) ≡ n
 length-front zero a b h = refl

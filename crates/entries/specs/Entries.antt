@@ -8,9 +8,9 @@ use Rattle.belnap.specs.declared.Decision.the-variants.{U}
 use Rattle.kinds.specs.declared.RowKind.the-variants.{Always}
 use Rattle.kinds.specs.declared.Kind.{Kind}
 use Rattle.kinds.specs.declared.ConstraintKind.the-variants.{NeverBoth}
-use Rattle.kinds.specs.declared.Kind.the-variants.{Row, Constraint}
+use Rattle.kinds.specs.declared.Kind.the-variants.{Row, Constraint, Supplier}
 use Rattle.kinds.specs.declared.Names.{Names}
-use Rattle.kinds.specs.declared.Names.the-variants.{Nothing, Predicates, Rows, Questions}
+use Rattle.kinds.specs.declared.Names.the-variants.{Nothing, Predicates, Rows, Questions, Suppliers}
 use Rattle.entries.specs.declared.Entry.{Entry}
 use Rattle.kinds.specs.Kinds.{formOf}
 
@@ -52,6 +52,10 @@ bodySize kind = formOf kind .numbers
 abbrev pub constraintSize : ℕ
 constraintSize = bodySize (Constraint NeverBoth) + 1
 
+-- and how many a 60 has
+abbrev pub supplierSize : ℕ
+supplierSize = bodySize Supplier + 1
+
 -- what stands past the end of a list of entries: always u
 abbrev pub blank : Entry
 blank = record { kind = Row (Always U); a = 0; b = 0 }
@@ -62,6 +66,7 @@ usedBy Nothing a = 0
 usedBy Predicates a = a + 1
 usedBy Rows a = 0
 usedBy Questions a = 0
+usedBy Suppliers a = 0
 
 -- one more than the highest predicate that an entry uses; 0 if it uses none
 abbrev pub highestOf : Names → List ℕ → ℕ

@@ -1,4 +1,4 @@
--- The refusals by their numbers (01, "When we say no"; 02, L2 and L5).
+-- The refusals by their numbers (01, "When we say no"; 02, L2, L5 and L6).
 use Prim.Native.Nat.{ℕ}
 use mathlib.Core.Bool.{Bool, false, cond}
 use mathlib.Core.List.{List, [], _∷_}
@@ -21,7 +21,7 @@ predicateTooHigh = 3
 abbrev pub notToBeNamed : ℕ
 notToBeNamed = 4
 
--- "a row after a question", "also when 50 or 51 follows a row or question" (02, L5)
+-- "a row after a question", "also when 50 or 51 follows a row or question" (02, L5), and "a 60 after a question" (02, L6)
 abbrev pub outOfOrder : ℕ
 outOfOrder = 5
 
@@ -61,6 +61,10 @@ misspelt = 13
 abbrev pub tooManyConstraints : ℕ
 tooManyConstraints = 14
 
+-- "a 60 that repeats the supplier in force or is not followed by a row's kind byte" (02, L6)
+abbrev pub idleSupplier : ℕ
+idleSupplier = 15
+
 -- 8 where what was asked for is missing; 0 where it is there
 abbrev pub ifMissing : Bool → ℕ
 ifMissing missing = cond missing notThere 0
@@ -68,14 +72,14 @@ ifMissing missing = cond missing notThere 0
 -- those of reading, in the order in which they are looked for at an entry: first these, whose place is the kind byte's, then these, whose place is a
 -- number's (02, L1)
 abbrev pub atKindByte : List ℕ
-atKindByte = unlisted ∷ outOfOrder ∷ tooManyRows ∷ tooManyQuestions ∷ tooManyConstraints ∷ cutShort ∷ []
+atKindByte = unlisted ∷ outOfOrder ∷ tooManyRows ∷ tooManyQuestions ∷ tooManyConstraints ∷ cutShort ∷ idleSupplier ∷ []
 
 abbrev pub atNumber : List ℕ
 atNumber = predicateTooHigh ∷ notToBeNamed ∷ []
 
 -- those that an entry with a whole body may bring, and those of a text's spelling
 abbrev pub ofEntries : List ℕ
-ofEntries = outOfOrder ∷ tooManyRows ∷ tooManyQuestions ∷ tooManyConstraints ∷ atNumber
+ofEntries = outOfOrder ∷ tooManyRows ∷ tooManyQuestions ∷ tooManyConstraints ∷ idleSupplier ∷ atNumber
 
 abbrev pub ofSpelling : List ℕ
 ofSpelling = unknownWord ∷ misspelt ∷ []

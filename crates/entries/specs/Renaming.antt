@@ -3,7 +3,7 @@ use Prim.Native.Nat.{ℕ}
 use mathlib.Core.Bool.{Bool, true, false, cond, _&&_}
 use lib.Dec.{ltb}
 use Rattle.kinds.specs.declared.Names.{Names}
-use Rattle.kinds.specs.declared.Names.the-variants.{Nothing, Predicates, Rows, Questions}
+use Rattle.kinds.specs.declared.Names.the-variants.{Nothing, Predicates, Rows, Questions, Suppliers}
 use Rattle.entries.specs.declared.Entry.{Entry}
 use Rattle.entries.specs.Entries.{numbersOf, namesOf}
 
@@ -13,6 +13,7 @@ rowNumbers Nothing = false
 rowNumbers Predicates = false
 rowNumbers Rows = true
 rowNumbers Questions = false
+rowNumbers Suppliers = false
 
 -- whether number i of an entry is there and names a row
 abbrev pub namesRow : ℕ → Entry → Bool

@@ -11,7 +11,7 @@ ghost use Prim.Native.Nat.{_≤_, _<_, min, max};
 ghost use Rattle.entries.specs.Entries.{numberLimit, sizeLimit, bodySize, sizeOf, usedBy, uses, bytesOf, onto};
 ghost use Rattle.entries.specs.Renaming.{namesRow};
 
-// A row, a question or a constraint: its kind, and its numbers; 0 for one that its kind has not.
+// A row, a question, a constraint or a supplier: its kind, and its numbers; 0 for one that its kind has not.
 pub struct Entry {
     pub kind: Kind,
     pub a: u8,
@@ -73,6 +73,7 @@ fn used_at(form: Form, i: usize, x: u8) -> usize
         Names::Predicates => predicate + 1,
         Names::Rows => 0,
         Names::Questions => 0,
+        Names::Suppliers => 0,
     }
 }
 
@@ -98,6 +99,7 @@ pub fn names_row(e: Entry, i: usize) -> bool
         Names::Predicates => false,
         Names::Rows => i < numbers,
         Names::Questions => false,
+        Names::Suppliers => false,
     }
 }
 

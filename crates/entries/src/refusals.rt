@@ -1,4 +1,4 @@
-// The refusals by their numbers (01, "When we say no"; 02, L2 and L5), a refusal with its place, and what a call that writes answers.
+// The refusals by their numbers (01, "When we say no"; 02, L2, L5 and L6), a refusal with its place, and what a call that writes answers.
 ghost use mathlib.Core.Path.{_≡_};
 ghost use Rattle.entries.specs.Said.{refusal};
 
@@ -29,6 +29,8 @@ pub const UNKNOWN_WORD: u8 = 12;
 pub const MISSPELT: u8 = 13;
 
 pub const TOO_MANY_CONSTRAINTS: u8 = 14;
+
+pub const IDLE_SUPPLIER: u8 = 15;
 
 // A refusal: its number and its place.
 pub struct Refusal {

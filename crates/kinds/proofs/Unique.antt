@@ -4,6 +4,7 @@ use Rattle.belnap.specs.One.{One}
 use Rattle.belnap.proofs.Unique.{by-definition}
 use Rattle.kinds.proofs.kind_of.Reads as kind_of
 use Rattle.kinds.proofs.form_of.Reads as form_of
+use Rattle.kinds.proofs.of_row.Reads as ofRow
 use Rattle.kinds.proofs.as_row.Reads as asRow
 use Rattle.kinds.proofs.as_question.Reads as asQuestion
 use Rattle.kinds.proofs.words.word_of.Reads as word_of
@@ -15,6 +16,9 @@ one-announced κs args exit = by-definition
 
 pub one-form : One form_of.Post
 one-form κs args exit = by-definition
+
+pub one-of-row : One ofRow.Post
+one-of-row κs args exit = by-definition
 
 pub one-row-kind : One asRow.Post
 one-row-kind κs args exit = by-definition

@@ -8,7 +8,7 @@ use operators::OneRow;
 use operators::TwoRow;
 ghost use mathlib.Core.Path.{_≡_};
 ghost use Prim.Native.Nat.{_+_, _≤_, _<_};
-ghost use Rattle.kinds.specs.Kinds.{kindOf, formOf, formWith, byteOfOne, byteOfTwo, byteOfOrder, asRow, asQuestion};
+ghost use Rattle.kinds.specs.Kinds.{kindOf, formOf, formWith, byteOfOne, byteOfTwo, byteOfOrder, asRow, asQuestion, ofRow};
 
 // The kinds of a row.
 pub enum RowKind {
@@ -253,6 +253,21 @@ pub fn form_of(kind: Kind) -> Form
         Kind::Question(question) => question_form(question),
         Kind::Constraint(constraint) => constraint_form(constraint),
         Kind::Supplier => line(0x60, 1, Names::Suppliers),
+    }
+}
+
+// Whether a byte that is looked at announces a row's kind.
+pub fn of_row(announced: Announced) -> bool
+    ensures { λ r. ⌜ r ≡ ofRow announced ⌝ }
+{
+    match announced {
+        Announced::Listed(kind) => match kind {
+            Kind::Row(_) => true,
+            Kind::Question(_) => false,
+            Kind::Constraint(_) => false,
+            Kind::Supplier => false,
+        },
+        Announced::Unlisted => false,
     }
 }
 

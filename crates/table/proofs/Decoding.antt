@@ -7,7 +7,7 @@ use mathlib.Core.Logic.{inl, inr, ⊎-elim}
 use Prim.Native.Nat.{ℕ, _+_, _-_, _≤_, _<_}
 use native.Mathlib.Omega.{arith}
 use native.Mathlib.Numerals.{add-one}
-use lib.ListN.{length, getD, length-append}
+use lib.ListN.{length, getD, drop, length-append}
 use lib.Seq.{getD-append-add}
 use lib.Dec.{ltb}
 use borrow.Author.Tests.{ltb-true, ltb-false, lt-ltb, le-ltb}
@@ -22,17 +22,17 @@ use Rattle.table.specs.declared.steps.Decoded.the-variants.{Unknown, Cut
 use Rattle.table.specs.declared.steps.Step.the-variants.{Took, Bad}
 use Rattle.table.specs.declared.steps.Entered.the-variants.{In, Out}
 use Rattle.entries.specs.declared.refusals.Refusal.{Refusal}
-use Rattle.entries.specs.Refusals.{unlisted, cutShort}
+use Rattle.entries.specs.Refusals.{unlisted, cutShort, idleSupplier, atKindByte, isAmong}
 use Rattle.entries.specs.Said.{Said, answered, refusing, refusal}
 use Rattle.kinds.specs.Kinds.{kindOf, formOf}
 use Rattle.entries.specs.Entries.{numbersOf, namesOf}
 use Rattle.table.specs.Steps.{numberAt, numberPlace, entryOf, bodyOf, decodedBy, decoded}
-use Rattle.table.specs.Steps.{noRoom, limit, fits, firstUnfit, offending, misnamed, misnaming, permitted, judged, stepOf, shownStep}
+use Rattle.table.specs.Steps.{noRoom, limit, fits, firstUnfit, offending, misnamed, placed, permitted, judged, stepOf, shownStep}
 use Rattle.table.specs.Steps.{oneMore, shownEntered}
 use Rattle.table.specs.Places.{Misnames, Points}
 use Rattle.kinds.proofs.KindTable.{byte-of-kind, kind-of-byte}
-use Rattle.entries.proofs.Saying.{not-both, unless-answered}
-use Rattle.table.proofs.Permission.{Allowed, allowed-if, misnaming-refusing, no-room-or, fits-below, unfit-there}
+use Rattle.entries.proofs.Saying.{not-both, unless-answered, unless-refusing}
+use Rattle.table.proofs.Permission.{Allowed, allowed-if, by-refusal, misnaming-refusing, room-at-kind, fits-below, unfit-there}
 
 -- the two ways that a body goes
 pub body-cut : (kind : Kind) (body : List ℕ) → length body < formOf kind .numbers → bodyOf kind body ≡ Cut kind
@@ -50,7 +50,7 @@ pub record Decodes (k : ℕ) (body : List ℕ) (e : Entry) : Type 0 where
   pub first : e .a ≡ numberAt (numbersOf e) 0 body
   pub second : e .b ≡ numberAt (numbersOf e) 1 body
 
-decodes : (k : ℕ) (body : List ℕ) (e : Entry) → decoded k body ≡ Full e → Decodes k body e
+pub decodes : (k : ℕ) (body : List ℕ) (e : Entry) → decoded k body ≡ Full e → Decodes k body e
 unfolding decoded
 decodes k body e q = go (kindOf k) refl q
   where
@@ -68,14 +68,21 @@ decodes k body e q = go (kindOf k) refl q
             rw same at it
 
 -- an entry that was read: what it was decoded from, and that it is allowed
-pub step-took : (k : ℕ) (body : List ℕ) (before : Tally) (e : Entry) → stepOf k body before ≡ answered e → Decodes k body e × Allowed before e
+abbrev pub behindOf : Entry → List ℕ → List ℕ
+behindOf e body = drop (numbersOf e) body
+
+pub step-took : (k : ℕ) (body : List ℕ) (force : ℕ) (before : Tally) (e : Entry) → stepOf k body force before ≡ answered e →
+    Decodes k body e × Allowed (placed e force (behindOf e body)) before e
 unfolding stepOf judged
-step-took k body before e q = go (decoded k body) refl q
+step-took k body force before e q = go (decoded k body) refl q
   where
-    go : (d : Decoded) → decoded k body ≡ d → judged d before ≡ answered e → Decodes k body e × Allowed before e
+    go : (d : Decoded) → decoded k body ≡ d → judged d body force before ≡ answered e →
+        Decodes k body e × Allowed (placed e force (behindOf e body)) before e
     go Unknown p q = not-both (sym q)
     go (Cut kind) p q = not-both (sym (unless-answered (noRoom kind before) (refusing (refusal cutShort 0)) e q .1))
-    go (Full f) p q = let h = allowed-if f e before q in (decodes k body e (rw (h .0) at p), rw (h .0) at (h .1))
+    go (Full f) p q =
+        let h = allowed-if f e (placed f force (behindOf f body)) before q in
+        (decodes k body e (rw (h .0) at p), rw (h .0) at (h .1))
 
 -- the first offending number of an entry, among the bytes that it was decoded from
 module _ (k : ℕ) (body : List ℕ) (before : Tally) (e : Entry) (t : Decodes k body e) where
@@ -116,22 +123,27 @@ module _ (k : ℕ) (body : List ℕ) (before : Tally) (e : Entry) (t : Decodes k
       go false a q b h = misnames-at 0 (e .a) (t .first) a (λ j l m. absurd (omega arith))
 
 -- a refusal at an entry points to its kind byte, or to the first offending number
-pub step-points : (k : ℕ) (body : List ℕ) (before : Tally) (why : Refusal) → stepOf k body before ≡ refusing why →
+pub step-points : (k : ℕ) (body : List ℕ) (force : ℕ) (before : Tally) (why : Refusal) → stepOf k body force before ≡ refusing why →
     Points (k ∷ body) 0 before (why .number) (why .place)
-unfolding stepOf judged permitted
-step-points k body before why q = go (decoded k body) refl q
+unfolding stepOf judged
+step-points k body force before why q = go (decoded k body) refl q
   where
-    go : (d : Decoded) → decoded k body ≡ d → judged d before ≡ refusing why → Points (k ∷ body) 0 before (why .number) (why .place)
-    go Unknown p q = let same : refusal unlisted 0 ≡ why = cc in rw (← same) (inl (refl, refl))
+    at-kind : (number : ℕ) → isAmong atKindByte number ≡ true → refusal number 0 ≡ why → Points (k ∷ body) 0 before (why .number) (why .place)
+    at-kind number h same = rw (← same) (inl (h, refl))
+
+    go : (d : Decoded) → decoded k body ≡ d → judged d body force before ≡ refusing why → Points (k ∷ body) 0 before (why .number) (why .place)
+    go Unknown p q = at-kind unlisted refl cc
     go (Cut kind) p q =
-        ⊎-elim inl
-        (λ h. let same : refusal cutShort 0 ≡ why = cc in rw (← same) (inl (refl, refl)))
-        (no-room-or kind before (refusing (refusal cutShort 0)) why q)
+        ⊎-elim
+        (λ h. at-kind (noRoom kind before) (room-at-kind kind before (h .0)) (h .1))
+        (λ h. at-kind cutShort refl cc)
+        (unless-refusing (noRoom kind before) (refusing (refusal cutShort 0)) why q)
     go (Full e) p q =
-        ⊎-elim inl
+        by-refusal e (placed e force (behindOf e body)) before why q
+        (λ h same. at-kind (noRoom (e .kind) before) (room-at-kind (e .kind) before h) same)
+        (λ bad same. at-kind idleSupplier refl same)
         (λ h. let told = misnaming-refusing e (offending e before) why h in
         rw (← told .1) (inr (misnames k body before e (decodes k body e p) (told .0))))
-        (no-room-or (e .kind) before (misnaming e (offending e before)) why q)
 
 -- so its place is not before the entry's start, nor behind the bytes that are left
 pub points-from : (s : List ℕ) (start : ℕ) (before : Tally) (n p : ℕ) → Points s start before n p → start ≤ p
@@ -170,15 +182,15 @@ turned-away (answered f) why q = never cc
 turned-away (refusing other) why q = cc
 
 -- an entry that entered, and one that was kept out
-pub entered : (e : Entry) (before more : Tally) → shownEntered before (permitted e before) ≡ In more →
-    (permitted e before ≡ answered e) × (more ≡ oneMore (e .kind) before)
+pub entered : (e : Entry) (good : Bool) (before more : Tally) → shownEntered before (permitted e good before) ≡ In more →
+    (permitted e good before ≡ answered e) × (more ≡ oneMore (e .kind) before)
 unfolding shownEntered
-entered e before more q = go (permitted e before) refl q
+entered e good before more q = go (permitted e good before) refl q
   where
-    go : (x : Said Entry) → permitted e before ≡ x → shownEntered before x ≡ In more → (permitted e before ≡ answered e) × (more
-        ≡ oneMore (e .kind) before)
+    go : (x : Said Entry) → permitted e good before ≡ x → shownEntered before x ≡ In more →
+        (permitted e good before ≡ answered e) × (more ≡ oneMore (e .kind) before)
     go (answered f) p q =
-        let one = allowed-if e f before p .0 in
+        let one = allowed-if e f good before p .0 in
         let same : oneMore (f .kind) before ≡ more = cc in
         (p ∙ ap answered (sym one), sym same ∙ ap (λ (e : Entry). oneMore (e .kind) before) (sym one))
     go (refusing why) p q = never cc

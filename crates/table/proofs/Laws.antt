@@ -6,26 +6,27 @@ use mathlib.Core.List.{List, [], _∷_, _++_}
 use Prim.Native.Nat.{ℕ, zero, suc, _+_, _*_, _-_, _≤_, _<_}
 use native.Mathlib.Omega.{arith}
 use lib.ListN.{length, getD, length-append}
-use lib.Dec.{ltb}
+use lib.Dec.{ltb, eqb}
 use borrow.Author.Tests.{ltb-true}
 use Rattle.belnap.proofs.Finite.{never, both-parts}
 use Rattle.kinds.specs.declared.RowKind.the-variants.{Always, DenyIf, GrantIf, One, Two}
 use Rattle.kinds.specs.declared.Kind.{Kind}
 use Rattle.kinds.specs.declared.Names.{Names}
-use Rattle.kinds.specs.declared.Names.the-variants.{Nothing, Predicates, Rows, Questions}
+use Rattle.kinds.specs.declared.Names.the-variants.{Nothing, Predicates, Rows, Questions, Suppliers}
 use Rattle.kinds.specs.declared.ConstraintKind.the-variants.{NeverBoth, OnlyIf}
-use Rattle.kinds.specs.declared.Kind.the-variants.{Row, Question, Constraint}
+use Rattle.kinds.specs.declared.Kind.the-variants.{Row, Question, Constraint, Supplier}
 use Rattle.entries.specs.declared.Entry.{Entry}
 use Rattle.table.specs.declared.steps.Tally.{Tally}
 use Rattle.entries.specs.Said.{answered}
 use Rattle.kinds.specs.Kinds.{formOf, isRow, isConstraint, asRow}
-use Rattle.entries.specs.Entries.{numbersOf, namesOf, bodySize, sizeOf, sizeLimit, constraintSize, blank, bytesOf, uses, usedBy}
-use Rattle.table.specs.Steps.{tally, predicateLimit, rowLimit, questionLimit, constraintLimit, limit, namedAt, fits}
-use Rattle.table.specs.Contents.{Contents, Covers, highest, predicates, entries, written, encoded}
+use Rattle.entries.specs.Entries.{numbersOf, namesOf, bodySize, sizeOf, sizeLimit, constraintSize, supplierSize, blank, bytesOf, uses, usedBy}
+use Rattle.table.specs.Steps.{tally, predicateLimit, rowLimit, questionLimit, constraintLimit, byteLimit, limit, namedAt, fits}
+use Rattle.table.specs.Suppliers.{noSupplier, supplying, change, marked}
+use Rattle.table.specs.Contents.{Contents, Covers, highest, predicates, written, encoded}
 use Rattle.table.specs.Reading.{reading}
 use Rattle.table.specs.Whole.{named}
 use Rattle.entries.proofs.OneEntry.{few, size, usedAt, used-by-both}
-use Rattle.table.proofs.Writing.{Sound, Each, each-get, of-accepted, ConstraintAt, RowAt, QuestionAt}
+use Rattle.table.proofs.Writing.{Sound, Each, each-get, written-append, written-parts, of-accepted, ConstraintAt, RowAt, QuestionAt}
 
 -- no entry has more bytes than the longest
 written-short : (es : List Entry) → length (written es) ≤ sizeLimit * length es
@@ -34,6 +35,41 @@ written-short [] = omega arith
 written-short (e ∷ es) =
     let h = written-short es in
     omega (arith, length-append (bytesOf e) (written es), size e, few (e .kind), h)
+
+-- a 60 has two bytes, and there is at most one for each row
+pub change-bytes : (force s : ℕ) → length (written (change force s)) ≡ cond (eqb s force) 0 supplierSize
+unfolding written bytesOf
+change-bytes force s = go (eqb s force)
+  where
+    go : (same : Bool) → length (written (cond same [] (supplying s ∷ []))) ≡ cond same 0 supplierSize
+    go true = refl
+    go false = refl
+
+change-short : (force s : ℕ) → length (written (change force s)) ≤ supplierSize
+change-short force s = rw (change-bytes force s) (go (eqb s force))
+  where
+    go : (same : Bool) → cond same 0 supplierSize ≤ supplierSize
+    go true = omega arith
+    go false = omega arith
+
+pub marked-short : (force : ℕ) (ss : List ℕ) (es : List Entry) → length (written (marked force ss es)) ≤ length (written es) + supplierSize * length es
+unfolding marked written
+marked-short force ss [] = omega arith
+marked-short force [] (e ∷ es) =
+    let rest = marked force [] es in
+    omega (arith, marked-short force [] es, length-append (bytesOf e) (written rest), length-append (bytesOf e) (written es))
+marked-short force (s ∷ ss) (e ∷ es) =
+    let rest = marked s ss es in
+    let first = change force s in
+    omega (
+      arith,
+      marked-short s ss es,
+      change-short force s,
+      ap length (written-append first (e ∷ rest)),
+      length-append (written first) (bytesOf e ++ written rest),
+      length-append (bytesOf e) (written rest),
+      length-append (bytesOf e) (written es),
+    )
 
 -- and constraints have one size
 constraint-size : (e : Entry) → isConstraint (e .kind) ≡ true → sizeOf e ≡ constraintSize
@@ -44,6 +80,7 @@ constraint-size e h = size e ∙ ap suc (go (e .kind) h)
     go (Question k) h = never (sym h)
     go (Constraint NeverBoth) h = refl
     go (Constraint OnlyIf) h = refl
+    go Supplier h = never (sym h)
 
 pub constraint-bytes : (i : ℕ) (es : List Entry) → Each ConstraintAt i es → length (written es) ≡ constraintSize * length es
 unfolding written
@@ -61,6 +98,7 @@ number-bound names n i x before h = go names (ltb i n) h
     go Predicates true h = omega (arith, ltb-true x predicateLimit h)
     go Rows true h = omega arith
     go Questions true h = omega arith
+    go Suppliers true h = omega arith
 
 used-bound : (e : Entry) (before : Tally) → named e before ≡ true → uses e ≤ predicateLimit
 used-bound e before h =
@@ -91,6 +129,7 @@ row-uses e = go (e .kind) (e .a) (e .b)
     go (Row (Two op)) a b = omega arith
     go (Question k) a b = omega arith
     go (Constraint k) a b = omega arith
+    go Supplier a b = omega arith
 
 -- as a constraint, its two predicates are among those that it uses
 pub constraint-uses : (e : Entry) → isConstraint (e .kind) ≡ true → (e .a < uses e) × (e .b < uses e)
@@ -102,6 +141,7 @@ constraint-uses e h = go (e .kind) (e .a) (e .b) h
     go (Question k) a b h = never (sym h)
     go (Constraint NeverBoth) a b h = (omega arith, omega arith)
     go (Constraint OnlyIf) a b h = (omega arith, omega arith)
+    go Supplier a b h = never (sym h)
 
 -- n covers the predicates that rows and constraints use
 highest-covers : (es : List Entry) → Covers (highest es) es
@@ -130,17 +170,30 @@ module _ (s : List ℕ) (c : Contents) (q : reading s ≡ answered c) where
   pub question-sound : (j : ℕ) → j < length (c .questions) → QuestionAt (length (c .constraints)) (length (c .rows)) j (getD (c .questions) j blank)
   question-sound = each-get (QuestionAt (length (c .constraints)) (length (c .rows))) (c .questions) blank (of-accepted s c q .0 .questions-sound)
 
-  -- at most 32 constraints, 256 rows, 64 questions and 1056 bytes, and n is at most 24
+  -- at most 32 constraints, 256 rows, 64 questions and 1568 bytes, and n is at most 24
   pub limits : (length (c .constraints) ≤ constraintLimit) × (length (c .rows) ≤ rowLimit) × (length (c .questions) ≤ questionLimit) ×
-      (length s ≤ sizeLimit * (constraintLimit + (rowLimit + questionLimit))) × (predicates c ≤ predicateLimit)
+      (length s ≤ byteLimit) × (predicates c ≤ predicateLimit)
   limits =
       let w = of-accepted s c q in
-      let many = length-append (c .constraints) (c .rows ++ c .questions) in
-      let others = length-append (c .rows) (c .questions) in (
+      let rows = marked noSupplier (c .suppliers) (c .rows) in
+      let parts : length (encoded c) ≡ length (written (c .constraints)) + (length (written rows) + length (written (c .questions))) =
+      ap length (written-parts c (w .0 .settles)) ∙ length-append (written (c .constraints)) (written rows ++ written (c .questions))
+      ∙ ap (λ (n : ℕ). length (written (c .constraints)) + n) (length-append (written rows) (written (c .questions))) in (
         w .0 .constraints-fit,
         w .0 .rows-fit,
         w .0 .questions-fit,
-        omega (arith, ap length (w .1), written-short (entries c), many, others, w .0 .constraints-fit, w .0 .rows-fit, w .0 .questions-fit),
+        omega (
+          arith,
+          ap length (w .1),
+          parts,
+          written-short (c .constraints),
+          written-short (c .rows),
+          written-short (c .questions),
+          marked-short noSupplier (c .suppliers) (c .rows),
+          w .0 .constraints-fit,
+          w .0 .rows-fit,
+          w .0 .questions-fit,
+        ),
         omega (
           arith,
           highest-bound isConstraint (λ i. tally i 0 0) 0 (c .constraints) (w .0 .constraints-sound),

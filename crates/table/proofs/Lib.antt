@@ -1,5 +1,6 @@
 -- Laws of a step and of reading; below this file, a folder for each function that has a proof of its own.
 pub mod Padding
+pub mod Marking
 pub mod Held
 pub mod Permission
 pub mod Decoding

@@ -2,7 +2,7 @@
 -- Assumes nothing.
 use mathlib.Core.Path.{_≡_, refl, sym, ap, _∙_}
 use mathlib.Core.Bool.{Bool, true, false, cond, _&&_, _||_}
-use mathlib.Core.List.{[], _∷_}
+use mathlib.Core.List.{List, [], _∷_}
 use mathlib.Core.Logic.{_⊎_, inl, inr, ⊎-elim}
 use Prim.Native.Nat.{ℕ, zero, suc, _-_, _≤_, _<_}
 use native.Mathlib.Omega.{arith}
@@ -10,18 +10,19 @@ use lib.Dec.{ltb, eqb}
 use borrow.Author.Tests.{eqb-true, ltb-true, ltb-false, lt-ltb, le-ltb}
 use Rattle.belnap.proofs.Finite.{never, both-parts, or-part, neither}
 use Rattle.kinds.specs.declared.Kind.{Kind}
-use Rattle.kinds.specs.declared.Kind.the-variants.{Row, Question, Constraint}
+use Rattle.kinds.specs.declared.Kind.the-variants.{Row, Question, Constraint, Supplier}
 use Rattle.kinds.specs.declared.Names.{Names}
-use Rattle.kinds.specs.declared.Names.the-variants.{Nothing, Predicates, Rows, Questions}
+use Rattle.kinds.specs.declared.Names.the-variants.{Nothing, Predicates, Rows, Questions, Suppliers}
 use Rattle.entries.specs.declared.Entry.{Entry}
 use Rattle.table.specs.declared.steps.Tally.{Tally}
 use Rattle.entries.specs.declared.refusals.Refusal.{Refusal}
 use Rattle.entries.specs.Refusals.{predicateTooHigh, notToBeNamed, outOfOrder, tooManyRows, tooManyQuestions, tooManyConstraints}
+use Rattle.entries.specs.Refusals.{idleSupplier}
 use Rattle.entries.specs.Refusals.{atKindByte, atNumber, ofEntries, isAmong}
 use Rattle.entries.specs.Said.{Said, answered, refusing, refusal, unless}
 use Rattle.entries.specs.Entries.{numbersOf, namesOf}
 use Rattle.table.specs.Steps.{rowLimit, questionLimit, constraintLimit, numberPlace, roomBy, noRoom, limit, namedAt, fits, firstUnfit}
-use Rattle.table.specs.Steps.{offending, misnamed, misnaming, permitted}
+use Rattle.table.specs.Steps.{offending, misnamed, misnaming, placedBy, ifIdle, permitted}
 use Rattle.table.specs.Whole.{named}
 use Rattle.entries.proofs.Numbers.{by-order}
 use Rattle.entries.proofs.Saying.{not-both, unless-none, unless-answered, unless-refusing}
@@ -42,11 +43,12 @@ room-by true count limit full r after room none = after refl
 room-by false count limit full r after room none =
     by-order count limit (λ h. rw (lt-ltb _ _ h) (room refl h)) (λ h. rw (le-ltb _ _ h) (none refl h))
 
--- a row has no question before it, a constraint no row and no question
+-- a row has no question before it, nor has a supplier; a constraint no row and no question
 abbrev pub Room : Kind → Tally → Type 0
 Room (Row k) before = (before .rows < rowLimit) × (before .questions ≡ 0)
 Room (Question k) before = before .questions < questionLimit
 Room (Constraint k) before = (before .constraints < constraintLimit) × (before .rows ≡ 0) × (before .questions ≡ 0)
+Room Supplier before = before .questions ≡ 0
 
 none-before : (n : ℕ) → ltb 0 n ≡ false → n ≡ 0
 none-before n e = omega (arith, ltb-false 0 n e)
@@ -62,16 +64,36 @@ room-of (Constraint k) before e =
     let room = room-by-none late (before .constraints) constraintLimit tooManyConstraints (omega arith) e in
     let none = neither (ltb 0 (before .rows)) (ltb 0 (before .questions)) (room .0) in
     (room .1, none-before (before .rows) (none .0), none-before (before .questions) (none .1))
+room-of Supplier before e = go (ltb 0 (before .questions)) refl e
+  where
+    go : (late : Bool) → ltb 0 (before .questions) ≡ late → _≡_ {A = ℕ} (cond late outOfOrder 0) 0 → before .questions ≡ 0
+    go true p e = absurd (omega arith)
+    go false p e = none-before (before .questions) p
 
 pub room-for : (kind : Kind) (before : Tally) → Room kind before → noRoom kind before ≡ 0
 unfolding noRoom
 room-for (Row k) before h = rw (h .1) (simp (lt-ltb _ _ (h .0)))
 room-for (Question k) before h = simp (lt-ltb _ _ h)
 room-for (Constraint k) before h = rw (h .1, h .2) (simp (lt-ltb _ _ (h .0)))
+room-for Supplier before h = rw h
+
+-- a supplier, or another entry: whether that is placed well does not depend on what stands behind it
+pub by-supplier : {P : Type 0} (kind : Kind) → (kind ≡ Supplier → P) → ((kind ≡ Supplier → ⊥) → P) → P
+by-supplier (Row k) is other = other (λ q. never cc)
+by-supplier (Question k) is other = other (λ q. never cc)
+by-supplier (Constraint k) is other = other (λ q. never cc)
+by-supplier Supplier is other = is refl
+
+pub placed-anyway : (kind : Kind) (a force : ℕ) (rest : List ℕ) → (kind ≡ Supplier → ⊥) → placedBy kind a force rest ≡ true
+placed-anyway (Row k) a force rest h = refl
+placed-anyway (Question k) a force rest h = refl
+placed-anyway (Constraint k) a force rest h = refl
+placed-anyway Supplier a force rest h = absurd (h refl)
 
 -- what a table with so many entries must allow of one more
-pub record Allowed (before : Tally) (e : Entry) : Type 0 where
+pub record Allowed (good : Bool) (before : Tally) (e : Entry) : Type 0 where
   pub room : noRoom (e .kind) before ≡ 0
+  pub places : good ≡ true
   pub names : named e before ≡ true
 
 -- no number offends exactly if each is below its limit
@@ -113,17 +135,23 @@ pub misnaming-some : (e : Entry) (place : ℕ) → (place ≡ 0 → ⊥) → mis
 misnaming-some e zero h = absurd (h refl)
 misnaming-some e (suc i) h = refl
 
-pub permitted-if : (e : Entry) (before : Tally) → Allowed before e → permitted e before ≡ answered e
+pub permitted-if : (e : Entry) (good : Bool) (before : Tally) → Allowed good before e → permitted e good before ≡ answered e
 unfolding permitted
-permitted-if e before h =
-    unless-none (noRoom (e .kind) before) (misnaming e (offending e before)) (h .room) ∙ ap (misnaming e) (none-offends e before (h .names))
+permitted-if e good before h =
+    unless-none (noRoom (e .kind) before) (unless (ifIdle good) (misnaming e (offending e before))) (h .room)
+    ∙ rw (h .places) (ap (misnaming e) (none-offends e before (h .names)))
 
-pub allowed-if : (e f : Entry) (before : Tally) → permitted e before ≡ answered f → (e ≡ f) × Allowed before e
+not-idle : (good : Bool) → ifIdle good ≡ 0 → good ≡ true
+not-idle true e = refl
+not-idle false e = absurd (omega arith)
+
+pub allowed-if : (e f : Entry) (good : Bool) (before : Tally) → permitted e good before ≡ answered f → (e ≡ f) × Allowed good before e
 unfolding permitted
-allowed-if e f before q =
-    let room = unless-answered (noRoom (e .kind) before) (misnaming e (offending e before)) f q in
-    let names = misnaming-answered e f (offending e before) (room .1) in
-    (names .0, record { room = room .0; names = all-named e before (names .1) })
+allowed-if e f good before q =
+    let room = unless-answered (noRoom (e .kind) before) (unless (ifIdle good) (misnaming e (offending e before))) f q in
+    let idle = unless-answered (ifIdle good) (misnaming e (offending e before)) f (room .1) in
+    let names = misnaming-answered e f (offending e before) (idle .1) in
+    (names .0, record { room = room .0; places = not-idle good (idle .0); names = all-named e before (names .1) })
 
 -- what holds of 5, 6, 7 and 14 holds of the refusal where there is no room, and what holds of 3 and 4 of that of a number
 room-by-is : (P : ℕ → Type 0) (late : Bool) (count limit full : ℕ) → P outOfOrder → P full → (roomBy late count limit full ≡ 0 → ⊥) →
@@ -142,12 +170,18 @@ room-is P five six seven fourteen (Row k) before = room-by-is P (ltb 0 (before .
 room-is P five six seven fourteen (Question k) before = room-by-is P false (before .questions) questionLimit tooManyQuestions five seven
 room-is P five six seven fourteen (Constraint k) before =
     room-by-is P (ltb 0 (before .rows) || ltb 0 (before .questions)) (before .constraints) constraintLimit tooManyConstraints five fourteen
+room-is P five six seven fourteen Supplier before = go (ltb 0 (before .questions))
+  where
+    go : (late : Bool) → (_≡_ {A = ℕ} (cond late outOfOrder 0) 0 → ⊥) → P (cond late outOfOrder 0)
+    go true h = five
+    go false h = absurd (h refl)
 
 pub misnamed-is : (P : ℕ → Type 0) → P predicateTooHigh → P notToBeNamed → (names : Names) → P (misnamed names)
 misnamed-is P three four Nothing = four
 misnamed-is P three four Predicates = three
 misnamed-is P three four Rows = four
 misnamed-is P three four Questions = four
+misnamed-is P three four Suppliers = four
 
 -- no refusal is given both at the kind byte and at a number
 pub numbers-apart : (n : ℕ) → isAmong atNumber n ≡ true → isAmong atKindByte n ≡ false
@@ -156,12 +190,9 @@ numbers-apart n h =
     (λ e. rw (eqb-true n predicateTooHigh e))
     (λ r. or-part (eqb n notToBeNamed) false r (λ e. rw (eqb-true n notToBeNamed e)) (λ e. never (sym e)))
 
--- a refusal where there may be no room: that, at the kind byte, or what else is said
-pub no-room-or : (kind : Kind) (before : Tally) (x : Said Entry) (why : Refusal) → unless (noRoom kind before) x ≡ refusing why →
-    ((isAmong atKindByte (why .number) ≡ true) × (why .place ≡ 0)) ⊎ (x ≡ refusing why)
-no-room-or kind before x why q =
-    ⊎-elim (λ h. inl (rw (← h .1) (room-is (λ n. isAmong atKindByte n ≡ true) refl refl refl refl kind before (h .0), refl))) inr
-    (unless-refusing (noRoom kind before) x why q)
+-- where there is no room, it is said at the kind byte
+pub room-at-kind : (kind : Kind) (before : Tally) → (noRoom kind before ≡ 0 → ⊥) → isAmong atKindByte (noRoom kind before) ≡ true
+room-at-kind = room-is (λ n. isAmong atKindByte n ≡ true) refl refl refl refl
 
 -- a number that fits where it stands, and one that does not
 pub fits-below : (numbers below i x : ℕ) → namedAt numbers below i x ≡ true → i < numbers → x < below
@@ -174,14 +205,27 @@ unfit-there numbers below i x h = go (ltb i numbers) refl h
     go true l h = (ltb-true i numbers l, ltb-false x below h)
     go false l h = never h
 
--- an entry that is whole is refused with 3 to 7 and 14 alone
-pub permitted-own : (e : Entry) (before : Tally) (why : Refusal) → permitted e before ≡ refusing why → isAmong ofEntries (why .number) ≡ true
+-- a refusal of an entry that is whole: no room, an idle supplier, or a number
+pub by-refusal : {P : Type 0} (e : Entry) (good : Bool) (before : Tally) (why : Refusal) → permitted e good before ≡ refusing why →
+    ((noRoom (e .kind) before ≡ 0 → ⊥) → refusal (noRoom (e .kind) before) 0 ≡ why → P) → (good ≡ false → refusal idleSupplier 0 ≡ why → P) →
+    (misnaming e (offending e before) ≡ refusing why → P) → P
 unfolding permitted
-permitted-own e before why q =
-    ⊎-elim
-    (λ h. rw (← h .1) (room-is (λ n. isAmong ofEntries n ≡ true) refl refl refl refl (e .kind) before (h .0)))
+by-refusal {P} e good before why q room idle names =
+    ⊎-elim (λ h. room (h .0) (h .1)) (go good refl)
+    (unless-refusing (noRoom (e .kind) before) (unless (ifIdle good) (misnaming e (offending e before))) why q)
+  where
+    go : (g : Bool) → good ≡ g → unless (ifIdle g) (misnaming e (offending e before)) ≡ refusing why → P
+    go true p h = names h
+    go false p h = idle p cc
+
+-- its number is one of 3 to 7, 14 and 15
+pub permitted-own : (e : Entry) (good : Bool) (before : Tally) (why : Refusal) → permitted e good before ≡ refusing why →
+    isAmong ofEntries (why .number) ≡ true
+permitted-own e good before why q =
+    by-refusal e good before why q
+    (λ h r. rw (← r) (room-is (λ n. isAmong ofEntries n ≡ true) refl refl refl refl (e .kind) before h))
+    (λ bad r. rw (← r) refl)
     (λ h. rw (← misnaming-refusing e (offending e before) why h .1) (misnamed-is (λ n. isAmong ofEntries n ≡ true) refl refl (namesOf e)))
-    (unless-refusing (noRoom (e .kind) before) (misnaming e (offending e before)) why q)
 
 -- a refusal at an entry points into it
 offending-inside : (e : Entry) (before : Tally) → offending e before ≤ numbersOf e
@@ -193,10 +237,9 @@ offending-inside e before = go (fits e before 0 (e .a)) refl (fits e before 1 (e
     go true a false b = omega (arith, unfit-there (numbersOf e) (limit (namesOf e) before) 1 (e .b) b .0)
     go false a q b = omega (arith, unfit-there (numbersOf e) (limit (namesOf e) before) 0 (e .a) a .0)
 
-pub refused-inside : (e : Entry) (before : Tally) (why : Refusal) → permitted e before ≡ refusing why → why .place ≤ numbersOf e
-unfolding permitted
-refused-inside e before why q =
-    ⊎-elim
-    (λ h. rw (← h .1) (omega arith))
+pub refused-inside : (e : Entry) (good : Bool) (before : Tally) (why : Refusal) → permitted e good before ≡ refusing why → why .place ≤ numbersOf e
+refused-inside e good before why q =
+    by-refusal e good before why q
+    (λ h r. rw (← r) (omega arith))
+    (λ bad r. rw (← r) (omega arith))
     (λ h. rw (← misnaming-refusing e (offending e before) why h .1) (offending-inside e before))
-    (unless-refusing (noRoom (e .kind) before) (misnaming e (offending e before)) why q)

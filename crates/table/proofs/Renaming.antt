@@ -9,7 +9,7 @@ use borrow.Author.Tests.{ltb-true, lt-ltb}
 use Rattle.belnap.proofs.Finite.{never, both-parts}
 use Rattle.kinds.specs.declared.Kind.{Kind}
 use Rattle.kinds.specs.declared.Names.{Names}
-use Rattle.kinds.specs.declared.Names.the-variants.{Nothing, Predicates, Rows, Questions}
+use Rattle.kinds.specs.declared.Names.the-variants.{Nothing, Predicates, Rows, Questions, Suppliers}
 use Rattle.entries.specs.declared.Entry.{Entry}
 use Rattle.table.specs.declared.steps.Tally.{Tally}
 use Rattle.entries.specs.Entries.{numbersOf, namesOf, sizeOf, usedBy, uses}
@@ -38,6 +38,7 @@ module _ (new : ℕ → ℕ) where
       go Predicates there x = refl
       go Rows there x = refl
       go Questions there x = refl
+      go Suppliers there x = refl
 
   -- one number: it is below its limit, and 0 where it is not there
   number-named : (names : Names) (n i x : ℕ) (before after : Tally) → before .questions ≡ after .questions →
@@ -52,6 +53,7 @@ module _ (new : ℕ → ℕ) where
       go true f h = lt-ltb _ _ (f refl (ltb-true _ _ h))
       go false f h = refl
   number-named Questions n i x before after q f h = rw q at h
+  number-named Suppliers n i x before after q f h = h
 
   number-tidy : (rows there : Bool) (x : ℕ) → x ≡ cond there x 0 → cond (rows && there) (new x) x ≡ cond there (cond (rows && there) (new x) x) 0
   number-tidy rows true x h = refl
@@ -81,6 +83,7 @@ named-below Nothing n i x before e h = never (sym e)
 named-below Predicates n i x before e h = never (sym e)
 named-below Rows n i x before e h = fits-below n (before .rows) i x h (ltb-true i n e)
 named-below Questions n i x before e h = never (sym e)
+named-below Suppliers n i x before e h = never (sym e)
 
 module _ {part : Kind → Bool} {before : Tally} (e : Entry) (h : Sound part before e) where
   both-fit : (fits e before 0 (e .a) ≡ true) × (fits e before 1 (e .b) ≡ true)

@@ -1,5 +1,5 @@
 -- What holds of every table that is refused (01, "When we say no"; 02, L1): its first bad entry speaks, and points to its kind byte or to a number; what
--- follows that entry does not matter but for 2.
+-- follows that entry does not matter but for 2, and for a 60 that is not out of order.
 -- Assumes nothing.
 use mathlib.Core.Path.{_≡_, refl, sym, ap, ap₂, _∙_}
 use mathlib.Core.Bool.{Bool, true, false, cond}
@@ -8,36 +8,39 @@ use mathlib.Core.Logic.{⊎-elim}
 use Prim.Native.Nat.{ℕ, suc, _+_, _-_, _≤_, _<_}
 use native.Mathlib.Omega.{arith}
 use lib.ListN.{length, getD, take, drop, length-append, List·getD-append}
-use lib.Seq.{take-append-seam, drop-append-add, getD-append-seam, take-add, getD-take, length-take-le}
+use lib.Seq.{take-append-seam, drop-at, drop-append-add, getD-append-seam, take-add, getD-take, length-take-le}
 use lib.Dec.{ltb}
 use borrow.Author.Tests.{ltb-true}
 use Rattle.belnap.proofs.Finite.{never}
 use Rattle.entries.specs.declared.refusals.Refusal.{Refusal}
 use Rattle.kinds.specs.declared.Kind.{Kind}
+use Rattle.kinds.specs.declared.Kind.the-variants.{Supplier}
+use Rattle.entries.specs.declared.Entry.{Entry}
 use Rattle.kinds.specs.declared.Announced.{Announced}
 use Rattle.kinds.specs.declared.Announced.the-variants.{Listed, Unlisted}
 use Rattle.table.specs.declared.steps.Tally.{Tally}
-use Rattle.entries.specs.Refusals.{cutShort, atKindByte, atNumber, isAmong}
+use Rattle.entries.specs.Refusals.{cutShort, notToBeNamed, outOfOrder, atKindByte, atNumber, isAmong}
 use Rattle.entries.specs.Said.{refusing, refusal, unless}
 use Rattle.kinds.specs.Kinds.{kindOf, formOf}
-use Rattle.entries.specs.Entries.{bodySize}
-use Rattle.table.specs.Steps.{numberAt, entryOf, bodyOf, decodedBy, decoded, noRoom, offending, misnaming, permitted, judged, stepOf}
-use Rattle.table.specs.Contents.{none, tallyOf, written, encoded}
+use Rattle.entries.specs.Entries.{namesOf, bodySize}
+use Rattle.table.specs.Steps.{numberAt, entryOf, bodyOf, decodedBy, decoded, noRoom, offending, misnamed, placed, permitted, judged, stepOf}
+use Rattle.table.specs.Suppliers.{marked, lastOf}
+use Rattle.table.specs.Contents.{none, tallyOf, settled, written, encoded}
 use Rattle.table.specs.Reading.{after, readOn, reading}
 use Rattle.table.specs.Places.{Misnames, Points, Speaks}
 use Rattle.entries.proofs.Numbers.{by-order}
 use Rattle.entries.proofs.Saying.{unless-none, unless-some}
-use Rattle.table.proofs.Permission.{misnamed-is, numbers-apart}
+use Rattle.table.proofs.Permission.{by-supplier, placed-anyway, by-refusal, misnaming-refusing, misnamed-is, numbers-apart}
 use Rattle.table.proofs.Decoding.{body-cut, body-whole, step-points, points-from, points-within, points-behind}
 use Rattle.table.proofs.Turns.{bytes-from}
-use Rattle.table.proofs.Writing.{Stopped, of-accepted, of-refused, read-past, whole-accepted}
+use Rattle.table.proofs.Writing.{Open, Stopped, of-accepted, of-refused, read-open, whole-accepted}
 
 -- how many bytes of its own a refused entry has behind its kind byte
 abbrev ownBytes : Announced → ℕ
 ownBytes Unlisted = 0
 ownBytes (Listed kind) = bodySize kind
 
--- behind them, nothing matters but for 2
+-- behind them, nothing matters but for 2 and at a 60
 number-kept : (m i : ℕ) (rest more : List ℕ) → m ≤ length rest → numberAt m i (take m rest ++ more) ≡ numberAt m i rest
 number-kept m i rest more w = go (ltb i m) refl
   where
@@ -55,35 +58,54 @@ body-kept kind rest more w =
     body-whole kind (take m rest ++ more) l ∙ rw (number-kept m 0 rest more w, number-kept m 1 rest more w) (sym (body-whole kind rest w))
 
 -- where there is no room, the body does not matter
-pub room-refuses : (kind : Kind) (body : List ℕ) (before : Tally) → (noRoom kind before ≡ 0 → ⊥) →
-    judged (bodyOf kind body) before ≡ refusing (refusal (noRoom kind before) 0)
+pub room-refuses : (kind : Kind) (body : List ℕ) (force : ℕ) (before : Tally) → (noRoom kind before ≡ 0 → ⊥) →
+    judged (bodyOf kind body) body force before ≡ refusing (refusal (noRoom kind before) 0)
 unfolding judged permitted
-room-refuses kind body before h =
-    let own = entryOf kind body in
+room-refuses kind body force before h =
     by-order (length body) (formOf kind .numbers)
     (λ l. rw (body-cut kind body l) (unless-some (noRoom kind before) (refusing (refusal cutShort 0)) h))
-    (λ l. rw (body-whole kind body l) (unless-some (noRoom kind before) (misnaming own (offending own before)) h))
+    (λ l. rw (body-whole kind body l) (unless-some (noRoom kind before) _ h))
 
-judged-kept : (kind : Kind) (rest more : List ℕ) (before : Tally) (why : Refusal) → (why .number ≡ cutShort → ⊥) →
-    judged (bodyOf kind rest) before ≡ refusing why → judged (bodyOf kind (take (formOf kind .numbers) rest ++ more)) before ≡ refusing why
+-- what is said of a body that is whole, but for a 60 that is not out of order
+full-kept : (e : Entry) (force : ℕ) (behind more : List ℕ) (before : Tally) (why : Refusal) → (e .kind ≡ Supplier → why .number ≡ outOfOrder) →
+    permitted e (placed e force behind) before ≡ refusing why → permitted e (placed e force more) before ≡ refusing why
+unfolding placed permitted
+full-kept e force behind more before why h q =
+    by-supplier (e .kind)
+    (λ is. let number = h is in
+    by-refusal e (placed e force behind) before why q
+    (λ full same. unless-some (noRoom (e .kind) before) _ full ∙ ap refusing same)
+    (λ bad same. absurd (omega (arith, ap (λ (r : Refusal). r .number) same, number)))
+    (λ names. let told = misnaming-refusing e (offending e before) why names .1 in
+    let four : misnamed (namesOf e) ≡ notToBeNamed = ap (λ (k : Kind). misnamed (formOf k .names)) is in
+    absurd (omega (arith, ap (λ (r : Refusal). r .number) told, number, four))))
+    (λ other. rw (placed-anyway (e .kind) (e .a) force more other) (rw (placed-anyway (e .kind) (e .a) force behind other) at q))
+
+judged-kept : (kind : Kind) (rest more : List ℕ) (force : ℕ) (before : Tally) (why : Refusal) → (why .number ≡ cutShort → ⊥) →
+    (kind ≡ Supplier → why .number ≡ outOfOrder) → judged (bodyOf kind rest) rest force before ≡ refusing why →
+    judged (bodyOf kind (take (formOf kind .numbers) rest ++ more)) (take (formOf kind .numbers) rest ++ more) force before ≡ refusing why
 unfolding judged
-judged-kept kind rest more before why h q =
+judged-kept kind rest more force before why h late q =
     by-order (length rest) (formOf kind .numbers)
     (λ l. let short : unless (noRoom kind before) (refusing (refusal cutShort 0)) ≡ refusing why = rw (body-cut kind rest l) at q in
     let full : noRoom kind before ≡ 0 → ⊥ = λ z. let e = sym (unless-none (noRoom kind before) (refusing (refusal cutShort 0)) z) ∙ short in
     let same : refusal cutShort 0 ≡ why = cc e in h (ap (λ (r : Refusal). r .number) (sym same)) in
-    room-refuses kind (take (formOf kind .numbers) rest ++ more) before full ∙ sym (unless-some (noRoom kind before) (refusing (refusal cutShort 0)) full) ∙
-    short)
-    (λ w. rw (body-kept kind rest more w) q)
+    room-refuses kind (take (formOf kind .numbers) rest ++ more) force before full
+    ∙ sym (unless-some (noRoom kind before) (refusing (refusal cutShort 0)) full) ∙ short)
+    (λ w. let own = entryOf kind rest in
+    rw (body-kept kind rest more w, body-whole kind rest w)
+    (full-kept own force (drop (formOf kind .numbers) rest) _ before why late (rw (body-whole kind rest w) at q)))
 
-step-kept : (k : ℕ) (rest more : List ℕ) (before : Tally) (why : Refusal) → (why .number ≡ cutShort → ⊥) →
-    stepOf k rest before ≡ refusing why → stepOf k (take (ownBytes (kindOf k)) rest ++ more) before ≡ refusing why
-unfolding stepOf decoded
-step-kept k rest more before why h q = go (kindOf k) q
+step-kept : (k : ℕ) (rest more : List ℕ) (force : ℕ) (before : Tally) (why : Refusal) → (why .number ≡ cutShort → ⊥) →
+    (kindOf k ≡ Listed Supplier → why .number ≡ outOfOrder) → stepOf k rest force before ≡ refusing why →
+    stepOf k (take (ownBytes (kindOf k)) rest ++ more) force before ≡ refusing why
+unfolding stepOf decoded judged
+step-kept k rest more force before why h late q = go (kindOf k) late q
   where
-    go : (a : Announced) → judged (decodedBy a rest) before ≡ refusing why → judged (decodedBy a (take (ownBytes a) rest ++ more)) before ≡ refusing why
-    go Unlisted q = q
-    go (Listed kind) q = judged-kept kind rest more before why h q
+    go : (a : Announced) → (a ≡ Listed Supplier → why .number ≡ outOfOrder) → judged (decodedBy a rest) rest force before ≡ refusing why →
+        judged (decodedBy a (take (ownBytes a) rest ++ more)) (take (ownBytes a) rest ++ more) force before ≡ refusing why
+    go Unlisted late q = q
+    go (Listed kind) late q = judged-kept kind rest more force before why h (λ is. late (ap Listed is)) q
 
 -- a refused table: its first bad entry speaks
 module _ (s : List ℕ) (n p : ℕ) (q : reading s ≡ refusing (refusal n p)) where
@@ -94,7 +116,7 @@ module _ (s : List ℕ) (n p : ℕ) (q : reading s ≡ refusing (refusal n p)) w
   front = encoded (stop .before)
 
   bytes : front ++ (stop .kind ∷ stop .rest) ≡ s
-  unfolding written front
+  unfolding written front marked lastOf
   bytes = stop .bytes
 
   kind-here : getD s (length front) 0 ≡ stop .kind
@@ -107,7 +129,7 @@ module _ (s : List ℕ) (n p : ℕ) (q : reading s ≡ refusing (refusal n p)) w
   unfolding front
   points-here =
       let here = points-behind front (stop .kind ∷ stop .rest) (tallyOf (stop .before)) (stop .here .number) (stop .here .place)
-      (step-points (stop .kind) (stop .rest) (tallyOf (stop .before)) (stop .here) (stop .bad)) in
+      (step-points (stop .kind) (stop .rest) (stop .before .supplier) (tallyOf (stop .before)) (stop .here) (stop .bad)) in
       rw (bytes, ← ap (λ (r : Refusal). r .number) (stop .is), ← ap (λ (r : Refusal). r .place) (stop .is)) at here
 
   start-within : length front < length s
@@ -118,9 +140,13 @@ module _ (s : List ℕ) (n p : ℕ) (q : reading s ≡ refusing (refusal n p)) w
   refused-at = record {
     start = length front;
     before = stop .before;
-    accepted = ap (λ (l : List ℕ). reading (take (length front) l)) (sym bytes)
-        ∙ ap reading (take-append-seam front (stop .kind ∷ stop .rest))
-        ∙ whole-accepted (stop .before) (stop .whole);
+    bytes = ap (take (length front)) (sym bytes) ∙ take-append-seam front (stop .kind ∷ stop .rest);
+    reached = record {
+      accepted = whole-accepted (settled (stop .before)) (stop .stands .whole);
+      awaits = let left : drop (length front) s ≡ stop .kind ∷ stop .rest =
+          ap (drop (length front)) (sym bytes) ∙ drop-at front (stop .kind ∷ stop .rest) (length front) refl in
+          rw left (stop .stands .awaits);
+    };
     brings =
         let number : stop .here .number ≡ n = sym (ap (λ (r : Refusal). r .number) (stop .is)) in
         let place : stop .here .place ≡ p - length front = omega (arith, ap (λ (r : Refusal). r .place) (stop .is)) in
@@ -141,24 +167,27 @@ module _ (s : List ℕ) (n p : ℕ) (w : Speaks s n p) where
   from : w .start ≤ p
   from = points-from s (w .start) (tallyOf (w .before)) n p (w .points)
 
-  pub read-up-to : (more : List ℕ) → reading (take (w .start) s ++ more) ≡ readOn (length more) (w .before) (w .start) more
+  pub read-up-to : (more : List ℕ) → reading (take (w .start) s ++ (kind-byte ∷ more)) ≡ readOn (suc (length more)) (w .before) (w .start) (kind-byte ∷ more)
   read-up-to more =
-      let a = of-accepted (take (w .start) s) (w .before) (w .accepted) in
-      let at : length (encoded (w .before)) ≡ w .start = ap length (a .1) ∙ length-take-le (w .start) s (omega (arith, from, w .within)) in
-      ap (λ (l : List ℕ). reading (l ++ more)) (sym (a .1)) ∙ read-past (w .before) more (a .0) ∙ rw at
+      let left : drop (w .start) s ≡ kind-byte ∷ behind = bytes-from s (w .start) (omega (arith, from, w .within)) in
+      let at : length (encoded (w .before)) ≡ w .start = ap length (sym (w .bytes)) ∙ length-take-le (w .start) s (omega (arith, from, w .within)) in
+      let stands : Open (w .before) (kind-byte ∷ more) = record {
+        whole = of-accepted (encoded (settled (w .before))) (settled (w .before)) (w .reached .accepted) .0;
+        awaits = rw left at (w .reached .awaits);
+      } in
+      ap (λ (l : List ℕ). reading (l ++ (kind-byte ∷ more))) (w .bytes) ∙ read-open (w .before) (kind-byte ∷ more) stands ∙ rw at
 
-  -- but for 2, whatever follows its own bytes does not matter
-  pub refused-anyway : (n ≡ cutShort → ⊥) → (more : List ℕ) →
+  -- but for 2, and for a 60 that is not out of order, whatever follows its own bytes does not matter
+  pub refused-anyway : (n ≡ cutShort → ⊥) → (kindOf kind-byte ≡ Listed Supplier → n ≡ outOfOrder) → (more : List ℕ) →
       reading (take (w .start + suc (ownBytes (kindOf kind-byte))) s ++ more) ≡ refusing (refusal n p)
   unfolding readOn after
-  refused-anyway h more =
+  refused-anyway h late more =
       let m = ownBytes (kindOf kind-byte) in
       let cut : take (w .start + suc m) s ≡ take (w .start) s ++ (kind-byte ∷ take m behind) =
       take-add (w .start) (suc m) s ∙ rw (bytes-from s (w .start) (omega (arith, from, w .within))) in
       let place : w .start + (p - w .start) ≡ p = omega (arith, from) in
-      rw (cut, append-assoc (take (w .start) s) (kind-byte ∷ take m behind) more)
-      (read-up-to (kind-byte ∷ (take m behind ++ more))
-      ∙ rw (step-kept kind-byte behind more (tallyOf (w .before)) (refusal n (p - w .start)) h (w .brings), place))
+      let kept = step-kept kind-byte behind more (w .before .supplier) (tallyOf (w .before)) (refusal n (p - w .start)) h late (w .brings) in
+      rw (cut, append-assoc (take (w .start) s) (kind-byte ∷ take m behind) more) (read-up-to (take m behind ++ more) ∙ rw (kept, place))
 
   number-of : Misnames s (w .start) (tallyOf (w .before)) n p → isAmong atNumber n ≡ true
   number-of m = ap (isAmong atNumber) (m .number-is) ∙ misnamed-is (λ n. isAmong atNumber n ≡ true) refl refl (formOf (m .kind) .names)

@@ -1,8 +1,8 @@
--- What a refusal of reading's says, and what its place points at (01, "When we say no"; 02, L1).
+-- What a refusal of reading's says, and what its place points at (01, "When we say no"; 02, L1 and L6).
 use Prim.Native.Nat.{ℕ, _+_, _-_, _≤_, _<_}
 use mathlib.Core.Path.{_≡_}
 use mathlib.Core.Bool.{true}
-use mathlib.Core.List.{List}
+use mathlib.Core.List.{List, []}
 use mathlib.Core.Logic.{_⊎_}
 use lib.ListN.{length, getD, take, drop}
 use Rattle.kinds.specs.declared.Kind.{Kind}
@@ -11,9 +11,9 @@ use Rattle.table.specs.declared.steps.Tally.{Tally}
 use Rattle.entries.specs.Refusals.{atKindByte, isAmong}
 use Rattle.entries.specs.Said.{answered, refusing, refusal}
 use Rattle.kinds.specs.Kinds.{kindOf, formOf}
-use Rattle.entries.specs.Entries.{bodySize}
-use Rattle.table.specs.Steps.{limit, misnamed, stepOf}
-use Rattle.table.specs.Contents.{Contents, tallyOf}
+use Rattle.entries.specs.Entries.{numberLimit, bodySize}
+use Rattle.table.specs.Steps.{limit, misnamed, beginsRow, stepOf}
+use Rattle.table.specs.Contents.{Contents, tallyOf, lastSupplier, settled, encoded}
 use Rattle.table.specs.Reading.{reading}
 
 -- "From now on 3 and 4 give the place of the first offending body byte": it lies in the body of the entry whose kind byte stands at `start`, which is not cut
@@ -31,12 +31,22 @@ pub record Misnames (s : List ℕ) (start : ℕ) (before : Tally) (number place 
 abbrev pub Points : List ℕ → ℕ → Tally → ℕ → ℕ → Type 0
 Points s start before number place = ((isAmong atKindByte number ≡ true) × (place ≡ start)) ⊎ Misnames s start before number place
 
--- "the first bad entry speaks": the bytes before its start are an accepted table, there it brings the refusal, and to it the place points. It lies within the
--- table, past whose end `getD` would read 0, a kind that is listed.
+-- no 60 waits for its row, or one does and a row's kind byte follows (02, L6)
+abbrev pub Awaits : Contents → List ℕ → Type 0
+Awaits c rest = (c .supplier ≡ lastSupplier c) ⊎ ((beginsRow rest ≡ true) × (c .questions ≡ []) × (c .supplier < numberLimit))
+
+-- contents that reading has come to, behind which these bytes are left: an accepted table, or one and a 60 that waits
+pub record Reached (c : Contents) (rest : List ℕ) : Type 0 where
+  pub accepted : reading (encoded (settled c)) ≡ answered (settled c)
+  pub awaits : Awaits c rest
+
+-- "the first bad entry speaks": reading comes to its start, where it brings the refusal, and to it the place points. It lies within the table, past whose end
+-- `getD` would read 0, a kind that is listed.
 pub record Speaks (s : List ℕ) (number place : ℕ) : Type 0 where
   pub start : ℕ
   pub before : Contents
-  pub accepted : reading (take start s) ≡ answered before
-  pub brings : stepOf (getD s start 0) (drop (start + 1) s) (tallyOf before) ≡ refusing (refusal number (place - start))
+  pub bytes : take start s ≡ encoded before
+  pub reached : Reached before (drop start s)
+  pub brings : stepOf (getD s start 0) (drop (start + 1) s) (before .supplier) (tallyOf before) ≡ refusing (refusal number (place - start))
   pub points : Points s start (tallyOf before) number place
   pub within : place < length s

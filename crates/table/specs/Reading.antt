@@ -10,6 +10,7 @@ use Rattle.table.specs.declared.Outcome.the-variants.{Read, Refused}
 use Rattle.entries.specs.Said.{Said, answered, refusing, refusal, whyOf}
 use Rattle.entries.specs.Entries.{blank, sizeOf}
 use Rattle.table.specs.Steps.{rowLimit, questionLimit, constraintLimit, stepOf}
+use Rattle.table.specs.Suppliers.{noSupplier, lastOf}
 use Rattle.table.specs.Contents.{Contents, none, tallyOf, withEntry, predicates, entries}
 
 -- what was read before an entry, and what is said of it; `rest` reads on behind it
@@ -21,9 +22,9 @@ after (refusing why) c at rest = refusing (refusal (why .number) (at + why .plac
 unfoldable pub readOn : ℕ → Contents → ℕ → List ℕ → Said Contents
 readOn zero c at s = answered c
 readOn (suc more) c at [] = answered c
-readOn (suc more) c at (k ∷ s) = after (stepOf k s (tallyOf c)) c at (λ size c. readOn more c (at + size) (drop size (k ∷ s)))
+readOn (suc more) c at (k ∷ s) = after (stepOf k s (c .supplier) (tallyOf c)) c at (λ size c. readOn more c (at + size) (drop size (k ∷ s)))
 
--- "all of 1 to 7 are looked for entry by entry from the front, so the first bad entry speaks", and 14 (02, L5); n bytes hold at most n entries
+-- "all of 1 to 7 are looked for entry by entry from the front, so the first bad entry speaks", 14 (02, L5) and 15 (02, L6); n bytes hold at most n entries
 unfoldable pub reading : List ℕ → Said Contents
 reading s = readOn (length s) none 0 s
 
@@ -36,22 +37,31 @@ unfoldable pub tableOf : Contents → Table
 tableOf c = record {
   constraints = padded blank constraintLimit (c .constraints);
   rows = padded blank rowLimit (c .rows);
+  suppliers = padded noSupplier rowLimit (c .suppliers);
   questions = padded blank questionLimit (c .questions);
   tally = tallyOf c;
   predicates = predicates c;
 }
 
--- the first n entries of a list; blank ones past its end
-unfoldable pub upTo : List Entry → ℕ → List Entry
-upTo es zero = []
-upTo es (suc n) = upTo es n ++ (getD es n blank ∷ [])
+-- the first n elements of a list; z past its end
+unfoldable pub firstOf : {A : Type 0} → A → List A → ℕ → List A
+firstOf z l zero = []
+firstOf z l (suc n) = firstOf z l n ++ (getD l n z ∷ [])
+
+abbrev pub upTo : List Entry → ℕ → List Entry
+upTo = firstOf blank
 
 -- the contents that a struct holds
+abbrev pub suppliersIn : Table → List ℕ
+suppliersIn t = firstOf noSupplier (t .suppliers) (t .tally .rows)
+
 abbrev pub contentsIn : Table → Contents
 contentsIn t = record {
   constraints = upTo (t .constraints) (t .tally .constraints);
   rows = upTo (t .rows) (t .tally .rows);
+  suppliers = suppliersIn t;
   questions = upTo (t .questions) (t .tally .questions);
+  supplier = lastOf noSupplier (suppliersIn t);
 }
 
 -- a struct counts no more of each than it has room for

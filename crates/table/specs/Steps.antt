@@ -1,16 +1,16 @@
 -- The limits, what bytes are decoded to, and whether an entry may stand in a table behind so many constraints, rows and questions
--- (01, "The table, byte by byte" and "When we say no"; 02, L5).
-use Prim.Native.Nat.{ℕ, zero, suc, _+_}
-use mathlib.Core.Bool.{Bool, true, false, cond, _||_}
-use mathlib.Core.List.{List}
-use lib.ListN.{length, getD}
-use lib.Dec.{ltb}
+-- (01, "The table, byte by byte" and "When we say no"; 02, L5 and L6).
+use Prim.Native.Nat.{ℕ, zero, suc, _+_, _*_}
+use mathlib.Core.Bool.{Bool, true, false, cond, not, _&&_, _||_}
+use mathlib.Core.List.{List, [], _∷_}
+use lib.ListN.{length, getD, drop}
+use lib.Dec.{ltb, eqb}
 use Rattle.kinds.specs.declared.Kind.{Kind}
-use Rattle.kinds.specs.declared.Kind.the-variants.{Row, Question, Constraint}
+use Rattle.kinds.specs.declared.Kind.the-variants.{Row, Question, Constraint, Supplier}
 use Rattle.kinds.specs.declared.Announced.{Announced}
 use Rattle.kinds.specs.declared.Announced.the-variants.{Listed, Unlisted}
 use Rattle.kinds.specs.declared.Names.{Names}
-use Rattle.kinds.specs.declared.Names.the-variants.{Nothing, Predicates, Rows, Questions}
+use Rattle.kinds.specs.declared.Names.the-variants.{Nothing, Predicates, Rows, Questions, Suppliers}
 use Rattle.entries.specs.declared.Entry.{Entry}
 use Rattle.table.specs.declared.steps.Tally.{Tally}
 use Rattle.table.specs.declared.steps.Decoded.{Decoded}
@@ -20,9 +20,10 @@ use Rattle.table.specs.declared.steps.Step.the-variants.{Took, Bad}
 use Rattle.table.specs.declared.steps.Entered.{Entered}
 use Rattle.table.specs.declared.steps.Entered.the-variants.{In, Out}
 use Rattle.entries.specs.Refusals.{unlisted, cutShort, predicateTooHigh, notToBeNamed, outOfOrder, tooManyRows, tooManyQuestions, tooManyConstraints}
+use Rattle.entries.specs.Refusals.{idleSupplier}
 use Rattle.entries.specs.Said.{Said, answered, refusing, refusal, unless}
-use Rattle.kinds.specs.Kinds.{kindOf, formOf}
-use Rattle.entries.specs.Entries.{numbersOf, namesOf, bodySize}
+use Rattle.kinds.specs.Kinds.{kindOf, formOf, ofRow}
+use Rattle.entries.specs.Entries.{numberLimit, sizeLimit, supplierSize, numbersOf, namesOf, bodySize}
 
 -- "Limits: predicates 0 to 23; 256 rows; 64 questions"
 abbrev pub predicateLimit : ℕ
@@ -37,6 +38,10 @@ questionLimit = 64
 -- "At most 32" (02, L5)
 abbrev pub constraintLimit : ℕ
 constraintLimit = 32
+
+-- no table has more bytes: each entry at its longest, and a 60 before each row
+abbrev pub byteLimit : ℕ
+byteLimit = sizeLimit * (constraintLimit + (rowLimit + questionLimit)) + supplierSize * rowLimit
 
 -- number i of a body of so many numbers; 0 where there is none
 abbrev pub numberAt : ℕ → ℕ → List ℕ → ℕ
@@ -70,16 +75,19 @@ abbrev pub oneMore : Kind → Tally → Tally
 oneMore (Row k) before = tally (before .constraints) (before .rows + 1) (before .questions)
 oneMore (Question k) before = tally (before .constraints) (before .rows) (before .questions + 1)
 oneMore (Constraint k) before = tally (before .constraints + 1) (before .rows) (before .questions)
+oneMore Supplier before = before
 
 -- 5 for an entry that comes too late, then the refusal of one more than there may be; 0 where there is room
 abbrev pub roomBy : Bool → ℕ → ℕ → ℕ → ℕ
 roomBy late count limit full = cond late outOfOrder (cond (ltb count limit) 0 full)
 
--- 5, 6, 7 and 14; 0 where there is room for an entry of a kind behind so many others: "All rows come before all questions", and constraints "before all rows"
+-- 5, 6, 7 and 14; 0 where there is room for an entry of a kind behind so many others: "All rows come before all questions", constraints "before all rows",
+-- and "a 60 after a question is 5" (02, L6)
 unfoldable pub noRoom : Kind → Tally → ℕ
 noRoom (Row k) before = roomBy (ltb 0 (before .questions)) (before .rows) rowLimit tooManyRows
 noRoom (Question k) before = roomBy false (before .questions) questionLimit tooManyQuestions
 noRoom (Constraint k) before = roomBy (ltb 0 (before .rows) || ltb 0 (before .questions)) (before .constraints) constraintLimit tooManyConstraints
+noRoom Supplier before = cond (ltb 0 (before .questions)) outOfOrder 0
 
 -- "A row may name only rows with a lower number; 42 and 43 only lower questions; 40 and 41 any row of the table": at a question all rows are read already,
 -- since 5 keeps rows before questions
@@ -88,6 +96,7 @@ limit Nothing before = 0
 limit Predicates before = predicateLimit
 limit Rows before = before .rows
 limit Questions before = before .questions
+limit Suppliers before = numberLimit
 
 -- whether number i of a body is below the limit, or not there
 abbrev pub namedAt : ℕ → ℕ → ℕ → ℕ → Bool
@@ -111,25 +120,45 @@ misnamed Nothing = notToBeNamed
 misnamed Predicates = predicateTooHigh
 misnamed Rows = notToBeNamed
 misnamed Questions = notToBeNamed
+misnamed Suppliers = notToBeNamed
 
 -- what is said of an entry by the place that offends: 3 or 4 there; the entry itself, where that is 0
 abbrev pub misnaming : Entry → ℕ → Said Entry
 misnaming e zero = answered e
 misnaming e (suc i) = refusing (refusal (misnamed (namesOf e)) (suc i))
 
--- whether an entry may stand there: 5, 6, 7 and 14, then 3 and 4
-unfoldable pub permitted : Entry → Tally → Said Entry
-permitted e before = unless (noRoom (e .kind) before) (misnaming e (offending e before))
+-- whether bytes begin with a row's kind byte
+abbrev pub beginsRow : List ℕ → Bool
+beginsRow [] = false
+beginsRow (k ∷ s) = ofRow (kindOf k)
+
+-- 15 is "a 60 that repeats the supplier in force or is not followed by a row's kind byte" (02, L6): whether an entry is none, by its kind, its first number,
+-- the supplier in force and the bytes behind it
+abbrev pub placedBy : Kind → ℕ → ℕ → List ℕ → Bool
+placedBy (Row k) s force rest = true
+placedBy (Question k) s force rest = true
+placedBy (Constraint k) s force rest = true
+placedBy Supplier s force rest = not (eqb s force) && beginsRow rest
+
+unfoldable pub placed : Entry → ℕ → List ℕ → Bool
+placed e force rest = placedBy (e .kind) (e .a) force rest
+
+abbrev pub ifIdle : Bool → ℕ
+ifIdle good = cond good 0 idleSupplier
+
+-- whether an entry may stand there: 5, 6, 7 and 14, then 15, then 3 and 4
+unfoldable pub permitted : Entry → Bool → Tally → Said Entry
+permitted e good before = unless (noRoom (e .kind) before) (unless (ifIdle good) (misnaming e (offending e before)))
 
 -- 1, kind not listed; 2, the body is cut short, behind 5, 6, 7 and 14. A refusal's place is counted from the kind byte.
-unfoldable pub judged : Decoded → Tally → Said Entry
-judged Unknown before = refusing (refusal unlisted 0)
-judged (Cut kind) before = unless (noRoom kind before) (refusing (refusal cutShort 0))
-judged (Full e) before = permitted e before
+unfoldable pub judged : Decoded → List ℕ → ℕ → Tally → Said Entry
+judged Unknown body force before = refusing (refusal unlisted 0)
+judged (Cut kind) body force before = unless (noRoom kind before) (refusing (refusal cutShort 0))
+judged (Full e) body force before = permitted e (placed e force (drop (numbersOf e) body)) before
 
--- the entry whose kind byte is k, followed by these bytes
-unfoldable pub stepOf : ℕ → List ℕ → Tally → Said Entry
-stepOf k body before = judged (decoded k body) before
+-- the entry whose kind byte is k, followed by these bytes, behind a supplier in force and so many others
+unfoldable pub stepOf : ℕ → List ℕ → ℕ → Tally → Said Entry
+stepOf k body force before = judged (decoded k body) body force before
 
 unfoldable pub shownStep : Said Entry → Step
 shownStep (answered e) = Took e

@@ -13,10 +13,11 @@ ghost use Rattle.entries.specs.Said.{refusing};
 ghost use Rattle.table.specs.Contents.{none};
 ghost use Rattle.table.specs.Reading.{reading, tableOf, shown};
 
-// A table just read: its constraints, rows and questions in order, how many there are of each, and 01's n.
+// A table just read: its constraints, rows and questions in order, a supplier a row, how many there are of each, and 01's n.
 pub struct Table {
     pub constraints: [Entry; Table::CONSTRAINTS],
     pub rows: [Entry; Table::ROWS],
+    pub suppliers: [u8; Table::ROWS],
     pub questions: [Entry; Table::QUESTIONS],
     pub tally: Tally,
     pub predicates: usize,
@@ -55,6 +56,7 @@ impl Table {
         Table {
             constraints: [blank; Table::CONSTRAINTS],
             rows: [blank; Table::ROWS],
+            suppliers: [0; Table::ROWS],
             questions: [blank; Table::QUESTIONS],
             tally: Tally {
                 constraints: 0,
@@ -82,10 +84,11 @@ pub fn read(s: &[u8]) -> Reading
     ensures { λ r. ⌜ r ≡ shown (reading (now (s .entry))) ⌝ }
 {
     let mut t = Table::empty();
+    let mut force = 0;
     let mut at = 0;
     while at < s.len() {
         let before = t.tally;
-        let step = steps::step_at(s, at, before);
+        let step = steps::step_at(s, at, force, before);
         match step {
             Step::Took(e) => {
                 let kind = e.kind;
@@ -93,6 +96,7 @@ pub fn read(s: &[u8]) -> Reading
                     Kind::Row(_) => {
                         let used = before.rows;
                         t.rows[used] = e;
+                        t.suppliers[used] = force;
                     }
                     Kind::Question(_) => {
                         let asked = before.questions;
@@ -101,6 +105,9 @@ pub fn read(s: &[u8]) -> Reading
                     Kind::Constraint(_) => {
                         let bound = before.constraints;
                         t.constraints[bound] = e;
+                    }
+                    Kind::Supplier => {
+                        force = e.a;
                     }
                 }
                 t.predicates = entries::larger(t.predicates, entries::uses_of(e));

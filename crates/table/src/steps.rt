@@ -9,9 +9,10 @@ use kinds::Names;
 ghost use mathlib.Core.Path.{_≡_};
 ghost use Prim.Native.Nat.{_+_, _<_};
 ghost use lib.ListN.{length, getD, drop};
-ghost use Rattle.entries.specs.Said.{refusal};
+ghost use Rattle.entries.specs.Refusals.{cutShort};
+ghost use Rattle.entries.specs.Said.{refusing, refusal, unless};
 ghost use Rattle.table.specs.Steps.{oneMore, roomBy, noRoom, limit, misnamed, numberAt, numberPlace, namedAt, offending};
-ghost use Rattle.table.specs.Steps.{bodyOf, decoded, permitted, judged, stepOf, shownStep, shownEntered};
+ghost use Rattle.table.specs.Steps.{bodyOf, decoded, beginsRow, placed, permitted, stepOf, shownStep, shownEntered};
 
 // So many constraints, rows and questions.
 pub struct Tally {
@@ -55,6 +56,7 @@ pub(crate) fn one_more(kind: Kind, before: Tally) -> Tally
         Kind::Constraint(_) => {
             more.constraints = before.constraints + 1;
         }
+        Kind::Supplier => {}
     }
     more
 }
@@ -89,6 +91,7 @@ fn no_room(kind: Kind, before: Tally) -> u8
             Table::CONSTRAINTS,
             refusals::TOO_MANY_CONSTRAINTS,
         ),
+        Kind::Supplier => if asked { refusals::OUT_OF_ORDER } else { 0 },
     }
 }
 
@@ -101,6 +104,7 @@ fn limit_of(names: Names, before: Tally) -> usize
         Names::Predicates => Table::PREDICATES,
         Names::Rows => before.rows,
         Names::Questions => before.questions,
+        Names::Suppliers => entries::NUMBERS,
     }
 }
 
@@ -113,6 +117,7 @@ fn misnamed_of(names: Names) -> u8
         Names::Predicates => refusals::PREDICATE_TOO_HIGH,
         Names::Rows => refusals::NOT_TO_BE_NAMED,
         Names::Questions => refusals::NOT_TO_BE_NAMED,
+        Names::Suppliers => refusals::NOT_TO_BE_NAMED,
     }
 }
 
@@ -203,14 +208,40 @@ fn bad(number: u8, place: usize) -> Step
     Step::Bad(Refusal { number, place })
 }
 
-// Whether an entry may stand behind so many others.
-pub(crate) fn permit(e: Entry, before: Tally) -> Step
-    ensures { λ r. ⌜ r ≡ shownStep (permitted e before) ⌝ }
+// Whether a row's kind byte stands at a place.
+fn row_at(s: &[u8], at: usize) -> bool
+    ensures { λ r. ⌜ r ≡ beginsRow (drop at (now (s .entry))) ⌝ }
+{
+    if s.len() <= at {
+        return false;
+    }
+    kinds::of_row(kinds::kind_of(s[at]))
+}
+
+// Whether an entry behind a supplier in force is no idle supplier; the next entry's kind byte would stand at a place.
+fn placed_at(e: Entry, force: u8, s: &[u8], next: usize) -> bool
+    ensures { λ r. ⌜ r ≡ placed e force (drop next (now (s .entry))) ⌝ }
+{
+    let kind = e.kind;
+    match kind {
+        Kind::Row(_) => true,
+        Kind::Question(_) => true,
+        Kind::Constraint(_) => true,
+        Kind::Supplier => (e.a != force) & row_at(s, next),
+    }
+}
+
+// Whether an entry may stand behind so many others; and whether, if it is a supplier, that is not idle.
+pub(crate) fn permit(e: Entry, good: bool, before: Tally) -> Step
+    ensures { λ r. ⌜ r ≡ shownStep (permitted e good before) ⌝ }
 {
     let kind = e.kind;
     let full = no_room(kind, before);
     if full != 0 {
         return bad(full, 0);
+    }
+    if !good {
+        return bad(refusals::IDLE_SUPPLIER, 0);
     }
     let place = offending_in(e, before);
     if place != 0 {
@@ -223,7 +254,7 @@ pub(crate) fn permit(e: Entry, before: Tally) -> Step
 
 // An entry whose body is cut short: its room is asked for first.
 fn cut_short(kind: Kind, before: Tally) -> Step
-    ensures { λ r. ⌜ r ≡ shownStep (judged (Decoded.Cut kind) before) ⌝ }
+    ensures { λ r. ⌜ r ≡ shownStep (unless (noRoom kind before) (refusing (refusal cutShort 0))) ⌝ }
 {
     let full = no_room(kind, before);
     if full != 0 {
@@ -232,24 +263,24 @@ fn cut_short(kind: Kind, before: Tally) -> Step
     bad(refusals::CUT_SHORT, 0)
 }
 
-// The entry whose kind byte stands at a place, behind so many others.
-pub(crate) fn step_at(s: &[u8], at: usize, before: Tally) -> Step
+// The entry whose kind byte stands at a place, behind a supplier in force and so many others.
+pub(crate) fn step_at(s: &[u8], at: usize, force: u8, before: Tally) -> Step
     requires { ⌜ at < length (now s) ⌝ }
-    ensures { λ r. ⌜ r ≡ shownStep (stepOf (getD (now (s .entry)) at 0) (drop (at + 1) (now (s .entry))) before) ⌝ }
+    ensures { λ r. ⌜ r ≡ shownStep (stepOf (getD (now (s .entry)) at 0) (drop (at + 1) (now (s .entry))) force before) ⌝ }
 {
     let found = decode(s, at);
     match found {
         Decoded::Unknown => bad(refusals::UNLISTED, 0),
         Decoded::Cut(kind) => cut_short(kind, before),
-        Decoded::Full(e) => permit(e, before),
+        Decoded::Full(e) => permit(e, placed_at(e, force, s, at + entries::size_of(e)), before),
     }
 }
 
-// An entry behind so many others.
-pub fn enter(e: Entry, before: Tally) -> Entered
-    ensures { λ r. ⌜ r ≡ shownEntered before (permitted e before) ⌝ }
+// An entry behind so many others; and whether, if it is a supplier, that is not idle.
+pub fn enter(e: Entry, good: bool, before: Tally) -> Entered
+    ensures { λ r. ⌜ r ≡ shownEntered before (permitted e good before) ⌝ }
 {
-    let step = permit(e, before);
+    let step = permit(e, good, before);
     match step {
         Step::Took(_) => {
             let kind = e.kind;

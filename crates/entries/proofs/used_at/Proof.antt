@@ -22,6 +22,9 @@ returns-4 c = (rw (lt-ltb _ _ (c .before .before .before .if1 .left), c .enum-to
 returns-5 : tie.Need-returns-5
 returns-5 c = (rw (lt-ltb _ _ (c .before .before .before .if1 .left), c .enum-told4 .given .1), omega arith)
 
+returns-6 : tie.Need-returns-6
+returns-6 c = (rw (lt-ltb _ _ (c .before .before .before .if1 .left), c .enum-told5 .given .1), omega arith)
+
 pub used-at-spec : {M : Type 1} → statement M
 used-at-spec =
     tie.close
@@ -33,7 +36,9 @@ used-at-spec =
     (λ c. search needs)
     (λ c. search needs)
     (λ c. search needs)
+    (λ c. search needs)
     returns-2
     returns-3
     returns-4
-    returns-5)
+    returns-5
+    returns-6)

@@ -6,26 +6,26 @@ use Prim.Native.Nat.{ℕ, _+_, _-_, _≤_, _<_, max}
 use native.Mathlib.Omega.{arith}
 use lib.ListN.{length}
 use Rattle.kinds.specs.declared.Kind.{Kind}
-use Rattle.kinds.specs.declared.Kind.the-variants.{Row, Question, Constraint}
+use Rattle.kinds.specs.declared.Kind.the-variants.{Row, Question, Constraint, Supplier}
 use Rattle.entries.specs.declared.Entry.{Entry}
 use Rattle.entries.specs.declared.refusals.Refusal.{Refusal}
 use Rattle.entries.specs.Said.{answered, refusing}
+use Rattle.entries.specs.Entries.{sizeOf}
 use Rattle.table.specs.Steps.{rowLimit, questionLimit, constraintLimit}
-use Rattle.table.specs.Contents.{withEntry}
-use Rattle.table.specs.Reading.{tableOf, shown}
+use Rattle.table.specs.Reading.{shown}
 use Rattle.entries.proofs.OneEntry.{size}
 use Rattle.table.proofs.Permission.{Room}
 use Rattle.table.proofs.Decoding.{took, turned-away}
-use Rattle.table.proofs.Turns.{At, start, here, inside-of, taken, room-here, room-for, stored, counting, grown, bad, bad-inside, done}
+use Rattle.table.proofs.Turns.{At, start, here, inside-of, taken, room-here, room-for, stored, forceBehind, counting, grown, bad, bad-inside, done}
 use borrow.Author.Needs.{needs}
 use Rattle.table.proofs.read.Statement.{statement}
 use Rattle.table.proofs.read.Tie as tie
 
 abbrev Inv-loop : tie.InvT-loop
-Inv-loop s t₀ at₀ t at = At s t at
+Inv-loop s t₀ force₀ at₀ t force at = At s t force at
 
 abbrev μ-loop : tie.MeasureT-loop
-μ-loop s t₀ at₀ t at = length s - at
+μ-loop s t₀ force₀ at₀ t force at = length s - at
 
 loop-holds : tie.Need-loop-holds Inv-loop μ-loop
 loop-holds c = start (c .before .before .args .s .now) (c .empty .result) (c .empty .ensures)
@@ -44,11 +44,11 @@ in-bytes : (c : tie.After-known-told Inv-loop μ-loop) → at-head c .loop .at <
 in-bytes c = c .before .before .before .before .before .loop-test .taken
 
 taken-here : (c : tie.After-known-told Inv-loop μ-loop) →
-    here (bytes c) (at-head c .loop .t) (at-head c .loop .at) (at-head c .loop .inv) (in-bytes c) ≡ answered (entry c)
+    here (bytes c) (at-head c .loop .t) (at-head c .loop .force) (at-head c .loop .at) (at-head c .loop .inv) (in-bytes c) ≡ answered (entry c)
 taken-here c = took _ (entry c) (sym (c .before .before .before .step-at .ensures) ∙ c .before .step .given .1)
 
 room : (c : tie.After-known-told Inv-loop μ-loop) (kind : Kind) → entry c .kind ≡ kind → Room kind (at-head c .loop .t .tally)
-room c kind = room-for (bytes c) (at-head c .loop .t) (at-head c .loop .at) (at-head c .loop .inv) (in-bytes c) (entry c) kind (taken-here c)
+room c kind = room-for (bytes c) (at-head c .loop .t) (at-head c .loop .force) (at-head c .loop .at) (at-head c .loop .inv) (in-bytes c) (entry c) kind (taken-here c)
 
 row-fits : (c : tie.After-enum-told Inv-loop μ-loop) → at-head (c .before .before) .loop .t .tally .rows < rowLimit
 row-fits c = room (c .before .before) _ (c .enum-told .given .1) .0
@@ -67,7 +67,7 @@ inside : (c : tie.After-size-of Inv-loop μ-loop) → at-head (told c) .loop .at
 inside c =
     let e = told c in
     let head = at-head e in
-    let ends = inside-of (bytes e) (head .loop .t) (head .loop .at) (head .loop .inv) (in-bytes e) (entry e) (taken-here e) in
+    let ends = inside-of (bytes e) (head .loop .t) (head .loop .force) (head .loop .at) (head .loop .inv) (in-bytes e) (entry e) (taken-here e) in
     omega (arith, c .size-of .ensures .0, ends)
 
 mul-e : tie.Need-mul-e Inv-loop μ-loop
@@ -75,6 +75,9 @@ mul-e c = record { fits = omega (arith, row-fits c) }
 
 element-set-from-e : tie.Need-element-set-from-e Inv-loop μ-loop
 element-set-from-e c = row-fits c
+
+element-write-t : tie.Need-element-write-t Inv-loop μ-loop
+element-write-t c = row-fits c
 
 mul-e-2 : tie.Need-mul-e-2 Inv-loop μ-loop
 mul-e-2 c = record { fits = omega (arith, question-fits c) }
@@ -92,7 +95,7 @@ one-more-requires : tie.Need-one-more-requires Inv-loop μ-loop
 one-more-requires c κs =
     let e = c .before .before .before in
     let head = at-head e in
-    room-here (bytes e) (head .loop .t) (head .loop .at) (head .loop .inv) (in-bytes e) (entry e) (taken-here e)
+    room-here (bytes e) (head .loop .t) (head .loop .force) (head .loop .at) (head .loop .inv) (in-bytes e) (entry e) (taken-here e)
 
 add-at : tie.Need-add-at Inv-loop μ-loop
 add-at c = record { fits = omega (arith, inside c) }
@@ -107,19 +110,23 @@ loop-again c =
     let uses = c .before .before .before .uses-of in
     let came = c .before .before .before .before .match2 in
     let e = told c in
-    let head = at-head e in
-    let store : (kind : Kind) → entry e .kind ≡ kind → came .t ≡ stored kind (entry e) (head .loop .t) →
-    counting (came .t) (more .result) (larger .result) ≡ tableOf (withEntry (head .loop .inv .contents) (entry e)) =
-    λ kind p q. grown (bytes e) (head .loop .t) (head .loop .at) (head .loop .inv) (in-bytes e) kind (entry e) (came .t) (larger .result) (more .result)
-    (taken-here e) p q (larger .ensures ∙ ap (max (came .t .predicates)) (uses .ensures .0)) (more .ensures) in
-    let stands =
-    ⊎-elim
-    (λ w. store (Row (w .1 .given .0 .0)) (w .1 .given .1) (w .2))
+    let now = at-head e .loop in
+    let next : (kind : Kind) → entry e .kind ≡ kind → came .t ≡ stored kind (now .force) (entry e) (now .t) →
+    came .force ≡ forceBehind kind (now .force) (entry e) →
+    At (bytes e) (counting (came .t) (more .result) (larger .result)) (came .force) (now .at + sizeOf (entry e)) =
+    λ kind p q r. taken (bytes e) (now .t) (now .force) (now .at) (now .inv) (in-bytes e) (entry e) _ (came .force) (taken-here e)
+    (grown (bytes e) (now .t) (now .force) (now .at) (now .inv) (in-bytes e) kind (entry e) (came .t) (larger .result) (more .result)
+    (taken-here e) p q (larger .ensures ∙ ap (max (came .t .predicates)) (uses .ensures .0)) (more .ensures))
+    (r ∙ ap (λ (k : Kind). forceBehind k (now .force) (entry e)) (sym p)) in
+    rw (c .size-of .ensures .0)
     (⊎-elim
-    (λ w. store (Question (w .1 .given .0 .0)) (w .1 .given .1) (w .2))
-    (λ w. store (Constraint (w .1 .given .0 .0)) (w .1 .given .1) (w .2)))
-    (came .came) in
-    rw (c .size-of .ensures .0) (taken (bytes e) (head .loop .t) (head .loop .at) (head .loop .inv) (in-bytes e) (entry e) _ (taken-here e) stands)
+    (λ w. next (Row (w .1 .given .0 .0)) (w .1 .given .1) (w .2) (w .3))
+    (⊎-elim
+    (λ w. next (Question (w .1 .given .0 .0)) (w .1 .given .1) (w .2) (w .3))
+    (⊎-elim
+    (λ w. next (Constraint (w .1 .given .0 .0)) (w .1 .given .1) (w .2) (w .3))
+    (λ w. next Supplier (w .1 .given .1) (w .2) (w .3))))
+    (came .came))
 
 -- at an entry that is refused: the same
 abbrev refused-head : tie.After-struct-known Inv-loop μ-loop → tie.At-loop Inv-loop μ-loop
@@ -135,20 +142,20 @@ in-refused : (c : tie.After-struct-known Inv-loop μ-loop) → refused-head c .l
 in-refused c = c .before .before .before .before .before .before .loop-test .taken
 
 refused-here : (c : tie.After-struct-known Inv-loop μ-loop) →
-    here (refused-bytes c) (refused-head c .loop .t) (refused-head c .loop .at) (refused-head c .loop .inv) (in-refused c) ≡ refusing (why c)
+    here (refused-bytes c) (refused-head c .loop .t) (refused-head c .loop .force) (refused-head c .loop .at) (refused-head c .loop .inv) (in-refused c) ≡ refusing (why c)
 refused-here c = turned-away _ (why c) (sym (c .before .before .before .before .step-at .ensures) ∙ c .before .before .step2 .given .1)
 
 add-place : tie.Need-add-place Inv-loop μ-loop
 add-place c =
     let head = refused-head c in
-    record { fits = omega (arith, bad-inside (refused-bytes c) (head .loop .t) (head .loop .at) (head .loop .inv) (in-refused c) (why c) (refused-here c)) }
+    record { fits = omega (arith, bad-inside (refused-bytes c) (head .loop .t) (head .loop .force) (head .loop .at) (head .loop .inv) (in-refused c) (why c) (refused-here c)) }
 
 returns : tie.Need-returns Inv-loop μ-loop
 returns c =
     let at = c .before in
     let head = refused-head at in
     c .refused .ensures
-    ∙ ap shown (sym (bad (refused-bytes at) (head .loop .t) (head .loop .at) (head .loop .inv) (in-refused at) (why at) (refused-here at)))
+    ∙ ap shown (sym (bad (refused-bytes at) (head .loop .t) (head .loop .force) (head .loop .at) (head .loop .inv) (in-refused at) (why at) (refused-here at)))
 
 returns-2 : tie.Need-returns-2 Inv-loop μ-loop
 unfolding shown
@@ -156,7 +163,7 @@ returns-2 c =
     let left = c .before in
     let head = left .before in
     rw (
-      done (head .before .before .before .args .s .now) (head .loop .t) (head .loop .at) (head .loop .inv) (left .loop-test .left),
+      done (head .before .before .before .args .s .now) (head .loop .t) (head .loop .force) (head .loop .at) (head .loop .inv) (left .loop-test .left),
       head .loop .inv .stands,
       c .of .ensures,
     )
@@ -174,12 +181,14 @@ read-spec =
     (λ c. search needs)
     mul-e
     element-set-from-e
+    element-write-t
     (λ c. search needs)
     mul-e-2
     element-set-from-e-2
     (λ c. search needs)
     mul-e-3
     element-set-from-e-3
+    (λ c. search needs)
     (λ c κs. search needs)
     (λ c κs. search needs)
     one-more-requires

@@ -2,20 +2,20 @@
 use mathlib.Core.Path.{sym, _∙_}
 use Rattle.entries.specs.Refusals.{cutShort}
 use Rattle.entries.specs.Said.{refusing, refusal}
-use Rattle.table.specs.Steps.{judged, shownStep}
+use Rattle.table.specs.Steps.{shownStep}
 use Rattle.entries.proofs.Saying.{unless-some}
 use borrow.Author.Needs.{needs}
 use Rattle.table.proofs.steps.cut_short.Statement.{statement}
 use Rattle.table.proofs.steps.cut_short.Tie as tie
 
 returns : tie.Need-returns
-unfolding judged shownStep
+unfolding shownStep
 returns c =
     let full = c .before .before .no-room .ensures in
     rw (unless-some _ (refusing (refusal cutShort 0)) (λ z. c .before .if1 .taken (full ∙ z)), ← full) (c .bad .ensures)
 
 returns-2 : tie.Need-returns-2
-unfolding judged shownStep
+unfolding shownStep
 returns-2 c =
     let full = sym (c .before .before .no-room .ensures) ∙ c .before .if1 .left in
     rw full (c .bad2 .ensures)

@@ -16,6 +16,14 @@ returns-3 : tie.Need-returns-3
 unfolding noRoom
 returns-3 c = rw (c .before .enum-told3 .given .1) (c .room-by3 .ensures)
 
+returns-4 : tie.Need-returns-4
+unfolding noRoom
+returns-4 c = rw (c .before .enum-told4 .given .1, c .if1 .taken)
+
+returns-5 : tie.Need-returns-5
+unfolding noRoom
+returns-5 c = rw (c .before .enum-told4 .given .1, c .if1 .left)
+
 pub no-room-spec : {M : Type 1} → statement M
 no-room-spec =
     tie.close
@@ -26,6 +34,9 @@ no-room-spec =
     (λ c κs. search needs)
     (λ c. search needs)
     (λ c κs. search needs)
+    (λ c. search needs)
     returns
     returns-2
-    returns-3)
+    returns-3
+    returns-4
+    returns-5)

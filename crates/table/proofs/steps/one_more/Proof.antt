@@ -48,6 +48,9 @@ returns-2 c = rw (c .before .enum-told2 .given .1)
 returns-3 : tie.Need-returns-3
 returns-3 c = rw (c .before .enum-told3 .given .1)
 
+returns-4 : tie.Need-returns-4
+returns-4 c = rw (c .enum-told4 .given .1)
+
 pub one-more-spec : {M : Type 1} → statement M
 one-more-spec =
     tie.close
@@ -58,6 +61,8 @@ one-more-spec =
     add-more-2
     (λ c. search needs)
     add-more-3
+    (λ c. search needs)
     returns
     returns-2
-    returns-3)
+    returns-3
+    returns-4)

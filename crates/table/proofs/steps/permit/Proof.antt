@@ -2,41 +2,69 @@
 use Rattle.entries.proofs.Saying.{unless-none, unless-some}
 use Rattle.kinds.specs.declared.Form.{Form}
 use Rattle.table.specs.declared.steps.Step.the-variants.{Bad}
-use Rattle.entries.specs.Said.{refusal}
-use Rattle.table.specs.Steps.{offending, misnamed, misnaming, permitted, shownStep}
+use Rattle.entries.specs.declared.Entry.{Entry}
+use Rattle.table.specs.declared.steps.Tally.{Tally}
+use Rattle.entries.specs.Said.{Said, refusal, unless}
+use Rattle.table.specs.Steps.{offending, misnamed, misnaming, ifIdle, permitted, shownStep}
 use Rattle.table.proofs.Permission.{misnaming-some}
-use mathlib.Core.Path.{sym, ap, ap₂, _∙_}
+use mathlib.Core.Path.{_≡_, refl, sym, ap, ap₂, _∙_}
+use mathlib.Core.Bool.{Bool, true, false, not}
+use Rattle.belnap.proofs.Finite.{never}
 use borrow.Author.Needs.{needs}
 use Rattle.table.proofs.steps.permit.Statement.{statement}
 use Rattle.table.proofs.steps.permit.Tie as tie
+
+-- what the test of a supplier tells
+told-false : (b : Bool) → not b ≡ true → b ≡ false
+told-false true h = never (sym h)
+told-false false h = refl
+
+told-true : (b : Bool) → not b ≡ false → b ≡ true
+told-true true h = refl
+told-true false h = never h
+
+-- what is said where there is room, and of a supplier that is placed well
+abbrev numbers-said : Entry → Tally → Said Entry
+numbers-said e before = misnaming e (offending e before)
 
 returns : tie.Need-returns
 unfolding permitted shownStep
 returns c =
     let start = c .before .before .before .args in
     let full = c .before .before .no-room .ensures in
-    rw (unless-some _ (misnaming (start .e) (offending (start .e) (start .before))) (λ z. c .before .if1 .taken (full ∙ z)), ← full) (c .bad .ensures)
+    rw (unless-some _ (unless (ifIdle (start .good)) (numbers-said (start .e) (start .before))) (λ z. c .before .if1 .taken (full ∙ z)), ← full) (c .bad .ensures)
 
 returns-2 : tie.Need-returns-2
 unfolding permitted shownStep
 returns-2 c =
-    let found = c .before .before .before .before in
-    let start = found .before .before .before .args in
-    let full = sym (found .before .before .no-room .ensures) ∙ found .before .if1 .left in
-    let place = found .offending-in .ensures in
-    let number = c .before .misnamed-of .ensures ∙ ap (λ (form : Form). misnamed (form .names)) (c .before .before .form-of .ensures) in
-    rw (
-      unless-none _ (misnaming (start .e) (offending (start .e) (start .before))) full,
-      misnaming-some (start .e) _ (λ z. c .before .before .before .if2 .taken (place ∙ z)),
-    ) (c .bad2 .ensures ∙ ap Bad (ap₂ refusal number place))
+    let here = c .before .before in
+    let start = here .before .before .args in
+    let full = sym (here .before .no-room .ensures) ∙ here .if1 .left in
+    rw (unless-none _ (unless (ifIdle (start .good)) (numbers-said (start .e) (start .before))) full, told-false (start .good) (c .before .if2 .taken)) (c .bad2 .ensures)
 
 returns-3 : tie.Need-returns-3
 unfolding permitted shownStep
 returns-3 c =
-    let start = c .before .before .before .before .args in
-    let full = sym (c .before .before .before .no-room .ensures) ∙ c .before .before .if1 .left in
-    let none = sym (c .before .offending-in .ensures) ∙ c .if2 .left in
-    rw (full, none)
+    let found = c .before .before .before .before in
+    let here = found .before .before in
+    let start = here .before .before .args in
+    let full = sym (here .before .no-room .ensures) ∙ here .if1 .left in
+    let place = found .offending-in .ensures in
+    let number = c .before .misnamed-of .ensures ∙ ap (λ (form : Form). misnamed (form .names)) (c .before .before .form-of .ensures) in
+    rw (
+      unless-none _ (unless (ifIdle (start .good)) (numbers-said (start .e) (start .before))) full,
+      told-true (start .good) (found .before .if2 .left),
+      misnaming-some (start .e) _ (λ z. c .before .before .before .if3 .taken (place ∙ z)),
+    ) (c .bad3 .ensures ∙ ap Bad (ap₂ refusal number place))
+
+returns-4 : tie.Need-returns-4
+unfolding permitted shownStep
+returns-4 c =
+    let found = c .before in
+    let here = found .before .before in
+    let full = sym (here .before .no-room .ensures) ∙ here .if1 .left in
+    let none = sym (found .offending-in .ensures) ∙ c .if3 .left in
+    rw (full, told-true (here .before .before .args .good) (found .before .if2 .left), none)
 
 pub permit-spec : {M : Type 1} → statement M
 permit-spec =
@@ -46,8 +74,10 @@ permit-spec =
     (λ c κs. search needs)
     returns
     (λ c κs. search needs)
-    (λ c κs. search needs)
-    (λ c κs. search needs)
-    (λ c κs. search needs)
     returns-2
-    returns-3)
+    (λ c κs. search needs)
+    (λ c κs. search needs)
+    (λ c κs. search needs)
+    (λ c κs. search needs)
+    returns-3
+    returns-4)
