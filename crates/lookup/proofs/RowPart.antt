@@ -1,14 +1,14 @@
 -- Where a row's bytes stand in an accepted table.
 -- Assumes nothing.
-use mathlib.Core.Path.{_≡_, refl, sym, ap, subst, _∙_}
+use mathlib.Core.Path.{_≡_, refl, sym, ap, ap₂, subst, _∙_}
 use mathlib.Core.Bool.{Bool, true, false}
-use mathlib.Core.List.{List, _∷_, _++_, append-assoc, append-nil}
+use mathlib.Core.List.{List, [], _∷_, _++_, append-assoc, append-nil}
 use Prim.Native.Nat.{ℕ, suc, _+_, _*_, _-_, _≤_, _<_}
 use native.Mathlib.Omega.{arith}
 use native.Mathlib.Numerals.{add-one}
 use native.Mathlib.Nat.{add-sub-cancel-left}
 use lib.ListN.{length, getD, take, drop, length-append}
-use lib.Seq.{split-at, take-suc, take-at, drop-at}
+use lib.Seq.{split-at, take-at, drop-at, length-take-le}
 use lib.Dec.{leb}
 use borrow.Author.Tests.{leb-false, lt-leb, le-leb}
 use Rattle.belnap.proofs.Finite.{never}
@@ -21,27 +21,46 @@ use Rattle.entries.specs.Said.{Said, answered, refusing, refusal, unless}
 use Rattle.entries.specs.Entries.{blank, sizeOf, constraintSize, bytesOf}
 use Rattle.entries.proofs.Saying.{not-both}
 use Rattle.table.specs.Steps.{rowLimit}
+use Rattle.table.specs.Suppliers.{noSupplier, change, marked, lastOf}
 use Rattle.table.specs.Contents.{Contents, written}
 use Rattle.table.specs.Reading.{reading, tableOf}
-use Rattle.lookup.specs.Lookup.{partOf, placeOf, shownPlace, partAt}
+use Rattle.lookup.specs.Lookup.{endingWith, bytesBefore, partOf, placeOf, shownPlace, partAt}
 use Rattle.table.proofs.Padding.{padded-at, padded-front}
-use Rattle.table.proofs.Writing.{Whole, written-append, written-more, of-accepted}
+use Rattle.table.proofs.Marking.{marked-append, marked-more}
+use Rattle.table.proofs.Writing.{Whole, written-append, written-more, written-parts, of-accepted}
 use Rattle.table.proofs.Laws.{constraint-bytes}
 
--- one row more adds its bytes to the start of the next
-pub start-more : (es : List Entry) (i : ℕ) → i < length es →
-    length (written (take (i + 1) es)) ≡ length (written (take i es)) + sizeOf (getD es i blank)
-start-more es i h =
-    let e = getD es i blank in
-    rw (add-one i, take-suc es i blank h, written-more (take i es) e, length-append (written (take i es)) (bytesOf e))
+-- the rows before a row, with their 60s and its own; and with the row
+module _ (ss : List ℕ) (es : List Entry) where
+  abbrev pub rowsTo : ℕ → List Entry
+  rowsTo i = marked noSupplier (take i ss) (take i es)
 
--- so a row starts behind the constraints and the rows before it
-pub start-is : (c : Contents) (r : ℕ) → r < length (c .rows) →
-    partOf r c .start ≡ length (written (c .constraints)) + length (written (take r (c .rows)))
-start-is c r h =
+  abbrev pub inForce : ℕ → ℕ
+  inForce i = lastOf noSupplier (take i ss)
+
+  pub start-more : (i : ℕ) → length ss ≡ length es → i < length es →
+      length (written (rowsTo (i + 1))) ≡ bytesBefore ss es i + sizeOf (getD es i blank)
+  start-more i many h =
+      let first = rowsTo i in
+      let mark = change (inForce i) (getD ss i noSupplier) in
+      let e = getD es i blank in
+      ap (λ (l : List Entry). length (written l)) (marked-more noSupplier ss es i many h ∙ sym (append-assoc first mark (e ∷ [])))
+      ∙ ap length (written-more (first ++ mark) e) ∙ length-append (written (first ++ mark)) (bytesOf e)
+
+  pub bytes-before : (i : ℕ) → bytesBefore ss es i ≡ length (written (rowsTo i)) + length (written (change (inForce i) (getD ss i noSupplier)))
+  bytes-before i =
+      let mark = change (inForce i) (getD ss i noSupplier) in
+      ap length (written-append (rowsTo i) mark) ∙ length-append (written (rowsTo i)) (written mark)
+
+-- so a row starts behind the constraints, the rows before it and a 60 of its own
+pub start-is : (c : Contents) (r : ℕ) → length (c .suppliers) ≡ length (c .rows) → r < length (c .rows) →
+    partOf r c .start ≡ length (written (c .constraints)) + bytesBefore (c .suppliers) (c .rows) r
+unfolding written
+start-is c r many h =
     let constraints = written (c .constraints) in
-    rw (append-nil (take (suc r) (c .rows)), written-append (c .constraints) (take (suc r) (c .rows)), ← add-one r)
-    (omega (arith, length-append constraints (written (take (r + 1) (c .rows))), start-more (c .rows) r h))
+    let rows = rowsTo (c .suppliers) (c .rows) (r + 1) in
+    rw (written-parts (endingWith r c) refl, ← add-one r, append-nil (written rows))
+    (omega (arith, length-append constraints (written rows), start-more (c .suppliers) (c .rows) r many h))
 
 -- what is said of a row that is there, and of one that is not
 pub place-there : (c : Contents) (r : ℕ) → r < length (c .rows) → placeOf (answered c) r ≡ answered (partOf r c)
@@ -54,13 +73,15 @@ place-missing c r h = rw (le-leb _ _ h)
 
 -- the part, from the struct of an accepted table
 pub found-part : (c : Contents) → Whole c → (r each start n : ℕ) → r < length (c .rows) → each ≡ constraintSize →
-    start ≡ each * length (c .constraints) + length (written (take r (tableOf c .rows))) →
+    start ≡ each * length (c .constraints) + bytesBefore (tableOf c .suppliers) (tableOf c .rows) r →
     n ≡ sizeOf (getD (tableOf c .rows) r blank) → _≡_ {A = Part} (record { start = start; length = n }) (partOf r c)
 unfolding tableOf
 found-part c w r each start n h k p q =
     let front = padded-front blank rowLimit (c .rows) r (omega arith) in
+    let before = padded-front noSupplier rowLimit (c .suppliers) r (omega (arith, w .suppliers-fit)) in
     let at = padded-at blank rowLimit (c .rows) r in
-    rw (p, k, q, front, at, start-is c r h, constraint-bytes 0 (c .constraints) (w .constraints-sound))
+    let own = padded-at noSupplier rowLimit (c .suppliers) r in
+    rw (p, k, q, front, before, at, own, start-is c r (w .suppliers-fit) h, constraint-bytes 0 (c .constraints) (w .constraints-sound))
 
 -- what a place tells of the reading
 pub place-tells : (x : Said Contents) (r : ℕ) (part : Part) → placeOf x r ≡ answered part →
@@ -79,33 +100,57 @@ module _ (s : List ℕ) (c : Contents) (r : ℕ) (q : reading s ≡ answered c) 
   abbrev pub own : List ℕ
   own = bytesOf (getD (c .rows) r blank)
 
+  whole : Whole c
+  whole = of-accepted s c q .0
+
+  abbrev before : List Entry
+  before = rowsTo (c .suppliers) (c .rows) r ++ change (inForce (c .suppliers) (c .rows) r) (getD (c .suppliers) r noSupplier)
+
   abbrev pub front : List ℕ
-  front = written (c .constraints) ++ written (take r (c .rows))
+  front = written (c .constraints) ++ written before
+
+  abbrev behind : List Entry
+  behind = marked (getD (c .suppliers) r noSupplier) (drop (suc r) (c .suppliers)) (drop (suc r) (c .rows))
 
   abbrev pub back : List ℕ
-  back = written (drop (suc r) (c .rows)) ++ written (c .questions)
+  back = written behind ++ written (c .questions)
+
+  -- the rows with their 60s, taken apart there
+  around-rows : marked noSupplier (c .suppliers) (c .rows) ≡ before ++ (getD (c .rows) r blank ∷ behind)
+  unfolding marked
+  around-rows =
+      let many = whole .suppliers-fit in
+      let ss = split-at (c .suppliers) r noSupplier (omega (arith, many)) in
+      let es = split-at (c .rows) r blank h in
+      let both : length (take r (c .suppliers)) ≡ length (take r (c .rows)) =
+      length-take-le r (c .suppliers) (omega (arith, many)) ∙ sym (length-take-le r (c .rows) (omega arith)) in
+      let mark = change (inForce (c .suppliers) (c .rows) r) (getD (c .suppliers) r noSupplier) in
+      ap₂ (marked noSupplier) ss es
+      ∙ marked-append noSupplier (take r (c .suppliers)) _ (take r (c .rows)) _ both
+      ∙ sym (append-assoc (rowsTo (c .suppliers) (c .rows) r) mark (getD (c .rows) r blank ∷ behind))
 
   pub around : front ++ (own ++ back) ≡ s
   unfolding written
   around =
       let constraints = written (c .constraints) in
-      let rows : written (c .rows) ≡ written (take r (c .rows)) ++ (own ++ written (drop (suc r) (c .rows))) =
-      ap written (split-at (c .rows) r blank h) ∙ written-append (take r (c .rows)) (getD (c .rows) r blank ∷ drop (suc r) (c .rows)) in
-      append-assoc constraints (written (take r (c .rows))) (own ++ back)
-      ∙ ap (λ (l : List ℕ). constraints ++ l) (sym (rw (rows, append-assoc, append-assoc) at (written-append (c .rows) (c .questions))))
-      ∙ sym (written-append (c .constraints) (c .rows ++ c .questions)) ∙ of-accepted s c q .1
+      let questions = written (c .questions) in
+      let rows : written (marked noSupplier (c .suppliers) (c .rows)) ≡ written before ++ (own ++ written behind) =
+      ap written around-rows ∙ written-append before (getD (c .rows) r blank ∷ behind) in
+      append-assoc constraints (written before) (own ++ back)
+      ∙ ap (λ (l : List ℕ). constraints ++ l) (sym (rw (rows, append-assoc (written before) (own ++ written behind) questions, append-assoc own (written behind)
+      questions)))
+      ∙ sym (written-parts c (whole .settles)) ∙ of-accepted s c q .1
 
   -- the row's part lies inside, and holds the row's own bytes
+  starts : partOf r c .start ≡ length front
+  starts = start-is c r (whole .suppliers-fit) h ∙ sym (length-append (written (c .constraints)) (written before))
+
   pub part-fits : partOf r c .start + partOf r c .length ≤ length s
-  part-fits =
-      let before = length-append (written (c .constraints)) (written (take r (c .rows))) in
-      omega (arith, start-is c r h, before, ap length around, length-append front (own ++ back), length-append own back)
+  part-fits = omega (arith, starts, ap length around, length-append front (own ++ back), length-append own back)
 
   pub part-own : partAt (answered (partOf r c)) s ≡ own
   unfolding partAt
-  part-own =
-      let before = sym (length-append (written (c .constraints)) (written (take r (c .rows)))) in
-      rw (start-is c r h, before, ← around, drop-at front (own ++ back) (length front) refl, take-at own back (length own) refl)
+  part-own = rw (starts, ← around, drop-at front (own ++ back) (length front) refl, take-at own back (length own) refl)
 
 -- "Asking for row r gives back that entry's own bytes"
 pub own-bytes : (s : List ℕ) (c : Contents) (r : ℕ) → reading s ≡ answered c → r < length (c .rows) →

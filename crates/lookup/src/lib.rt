@@ -5,15 +5,15 @@ use kinds::ConstraintKind;
 use kinds::Kind;
 use table::Outcome;
 use table::Table;
+use table::suppliers;
 ghost use mathlib.Core.Path.{_≡_};
-ghost use Prim.Native.Nat.{_+_, _*_, _≤_};
-ghost use lib.ListN.{length, take};
-ghost use Rattle.entries.specs.Entries.{sizeLimit};
+ghost use Prim.Native.Nat.{_+_, _*_, _≤_, _<_};
+ghost use lib.ListN.{length};
+ghost use Rattle.entries.specs.Entries.{sizeLimit, supplierSize};
 ghost use Rattle.entries.specs.Said.{whyOf};
 ghost use Rattle.table.specs.Steps.{rowLimit};
 ghost use Rattle.table.specs.Reading.{reading};
-ghost use Rattle.table.specs.Contents.{written};
-ghost use Rattle.lookup.specs.Lookup.{placeOf, shownPlace, startAt, partAt};
+ghost use Rattle.lookup.specs.Lookup.{bytesBefore, placeOf, shownPlace, startAt, partAt};
 
 // Where a part of a table starts, and how many bytes it has.
 pub struct Part {
@@ -27,19 +27,22 @@ pub enum Place {
     Missing(Refusal),
 }
 
-// How many bytes the rows before a row have.
+// How many bytes the rows before a row have, with their 60s, and its own.
 fn bytes_before(t: Table, row: usize) -> usize
-    requires { ⌜ (row ≤ rowLimit) × (rowLimit ≤ length (t .rows)) ⌝ }
-    ensures { λ r. ⌜ (r ≡ length (written (take row (t .rows)))) × (r ≤ sizeLimit * rowLimit) ⌝ }
+    requires { ⌜ (row < rowLimit) × (length (t .rows) ≡ rowLimit) × (length (t .suppliers) ≡ rowLimit) ⌝ }
+    ensures { λ r. ⌜ (r ≡ bytesBefore (t .suppliers) (t .rows) row) × (r ≤ (sizeLimit + supplierSize) * rowLimit) ⌝ }
 {
     let mut start = 0;
+    let mut force = suppliers::NONE;
     let mut i = 0;
     while i < row {
         let e = t.rows[i];
-        start = start + entries::size_of(e);
+        let s = t.suppliers[i];
+        start = start + suppliers::change_size(force, s) + entries::size_of(e);
+        force = s;
         i += 1;
     }
-    start
+    start + suppliers::change_size(force, t.suppliers[row])
 }
 
 // Where row `row` of a table stands, from the table's bytes on.

@@ -5,6 +5,8 @@ use Rattle.belnap.proofs.Unique.{by-definition}
 use Rattle.table.proofs.Table.empty.Reads as empty
 use Rattle.table.proofs.read.Reads as read
 use Rattle.table.proofs.steps.enter.Reads as enter
+use Rattle.table.proofs.suppliers.supplying.Reads as supplying
+use Rattle.table.proofs.suppliers.change_size.Reads as change_size
 
 pub one-empty : One empty.Post
 one-empty κs args exit = by-definition
@@ -14,3 +16,9 @@ one-reading κs args exit = by-definition
 
 pub one-entered : One enter.Post
 one-entered κs args exit = by-definition
+
+pub one-supplying : One supplying.Post
+one-supplying κs args exit = by-definition
+
+pub one-change : One change_size.Post
+one-change κs args exit a b p q = by-definition a b (p .0) (q .0)

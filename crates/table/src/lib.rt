@@ -1,5 +1,6 @@
 // The table: its type and limits, and reading it from bytes.
 pub mod steps;
+pub mod suppliers;
 
 use crate::steps::Step;
 use crate::steps::Tally;
@@ -56,7 +57,7 @@ impl Table {
         Table {
             constraints: [blank; Table::CONSTRAINTS],
             rows: [blank; Table::ROWS],
-            suppliers: [0; Table::ROWS],
+            suppliers: [suppliers::NONE; Table::ROWS],
             questions: [blank; Table::QUESTIONS],
             tally: Tally {
                 constraints: 0,
@@ -84,7 +85,7 @@ pub fn read(s: &[u8]) -> Reading
     ensures { λ r. ⌜ r ≡ shown (reading (now (s .entry))) ⌝ }
 {
     let mut t = Table::empty();
-    let mut force = 0;
+    let mut force = suppliers::NONE;
     let mut at = 0;
     while at < s.len() {
         let before = t.tally;

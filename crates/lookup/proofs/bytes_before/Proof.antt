@@ -1,36 +1,57 @@
 -- That `bytes_before` (src/lib.rt) keeps its promise.
-use Rattle.lookup.proofs.RowPart.{start-more}
-use Rattle.entries.specs.Entries.{sizeLimit}
-use Rattle.table.specs.Contents.{written}
-use lib.ListN.{length, take}
+use mathlib.Core.Path.{_≡_, refl, sym, ap, _∙_}
+use Prim.Native.Nat.{ℕ, _+_, _-_, _*_, _≤_}
 use native.Mathlib.Omega.{arith}
-use Prim.Native.Nat.{_≤_, _-_, _*_}
-use mathlib.Core.Path.{_≡_, sym}
+use lib.ListN.{length, getD}
+use Rattle.entries.specs.Entries.{sizeLimit, supplierSize}
+use Rattle.table.specs.Suppliers.{noSupplier, change, marked, lastOf}
+use Rattle.table.specs.Contents.{written}
+use Rattle.table.proofs.Marking.{last-more}
+use Rattle.lookup.proofs.RowPart.{rowsTo, inForce, start-more, bytes-before}
 use borrow.Author.Needs.{needs}
 use Rattle.lookup.proofs.bytes_before.Statement.{statement}
 use Rattle.lookup.proofs.bytes_before.Tie as tie
 
 abbrev Inv-loop : tie.InvT-loop
-Inv-loop row t start₀ i₀ start i = (i ≤ row) × (start ≡ length (written (take i (t .rows)))) × (start ≤ sizeLimit * i)
+Inv-loop row t start₀ force₀ i₀ start force i =
+    (i ≤ row) × (start ≡ length (written (rowsTo (t .suppliers) (t .rows) i))) × (force ≡ inForce (t .suppliers) (t .rows) i)
+    × (start ≤ (sizeLimit + supplierSize) * i)
 
 abbrev μ-loop : tie.MeasureT-loop
-μ-loop row t start₀ i₀ start i = row - i
+μ-loop row t start₀ force₀ i₀ start force i = row - i
 
 loop-holds : tie.Need-loop-holds Inv-loop μ-loop
-unfolding written
-loop-holds c = search needs
+unfolding written marked lastOf
+loop-holds c = (omega arith, refl, refl, omega arith)
 
 loop-again : tie.Need-loop-again Inv-loop μ-loop
 loop-again c =
-    let at = c .before .before .before in
-    let e = start-more (at .before .args .t1 .rows) (at .loop .i) (omega arith) in
-    (omega arith, rw (c .size-of .ensures .0, at .loop .inv .1) (sym e), omega arith)
+    let marked-at = c .before .change-size in
+    let head = c .before .before .before .before .before in
+    let start = head .before in
+    let t = start .args .t1 in
+    let i = head .loop .i in
+    let inv = head .loop .inv in
+    let more = start-more (t .suppliers) (t .rows) i (start .pre .2 ∙ sym (start .pre .1)) (omega arith) in
+    let mark = marked-at .ensures .0 ∙ ap (λ (f : ℕ). length (written (change f (getD (t .suppliers) i noSupplier)))) (inv .2) in (
+      omega arith,
+      omega (arith, c .size-of .ensures .0, mark, inv .1, more, bytes-before (t .suppliers) (t .rows) i),
+      sym (last-more noSupplier (t .suppliers) i (omega (arith, start .pre .2))),
+      omega (arith, inv .3, marked-at .ensures .1, c .size-of .ensures .1),
+    )
 
 returns : tie.Need-returns Inv-loop μ-loop
 returns c =
-    let at = c .before in
-    let q : at .loop .i ≡ at .before .args .row = omega arith in
-    (rw q at (at .loop .inv .1), omega arith)
+    let head = c .before .before .before in
+    let start = head .before in
+    let t = start .args .t1 in
+    let row = start .args .row in
+    let q : head .loop .i ≡ row = omega arith in
+    let inv = head .loop .inv in
+    let rows = rw q at (inv .1) in
+    let force = rw q at (inv .2) in
+    let mark = c .change-size2 .ensures .0 ∙ ap (λ (f : ℕ). length (written (change f (getD (t .suppliers) row noSupplier)))) force in
+    (omega (arith, mark, rows, bytes-before (t .suppliers) (t .rows) row), omega (arith, inv .3, c .change-size2 .ensures .1))
 
 pub bytes-before-spec : {M : Type 1} → statement M
 bytes-before-spec =
@@ -41,9 +62,15 @@ bytes-before-spec =
     loop-holds
     (λ c. search needs)
     (λ c. search needs)
+    (λ c. search needs)
+    (λ c κs. search needs)
+    (λ c. search needs)
     (λ c κs. search needs)
     (λ c. search needs)
     (λ c. search needs)
     (λ c. search needs)
     loop-again
+    (λ c. search needs)
+    (λ c κs. search needs)
+    (λ c. search needs)
     returns)

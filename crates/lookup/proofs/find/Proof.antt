@@ -3,15 +3,15 @@ use mathlib.Core.Path.{_≡_, ap, ap₂, _∙_}
 use mathlib.Core.List.{List}
 use Prim.Native.Nat.{ℕ, _+_, _*_, _<_}
 use native.Mathlib.Omega.{arith}
-use lib.ListN.{length, getD, take}
+use lib.ListN.{length, getD}
 use Rattle.entries.specs.declared.Entry.{Entry}
 use Rattle.table.specs.declared.Table.{Table}
 use Rattle.lookup.specs.declared.Place.the-variants.{At}
 use Rattle.entries.specs.Entries.{blank, sizeOf}
 use Rattle.table.specs.Steps.{rowLimit}
-use Rattle.table.specs.Contents.{written}
+use Rattle.table.specs.Suppliers.{noSupplier}
 use Rattle.table.specs.Reading.{tableOf}
-use Rattle.lookup.specs.Lookup.{placeOf, shownPlace}
+use Rattle.lookup.specs.Lookup.{bytesBefore, placeOf, shownPlace}
 use Rattle.table.proofs.Padding.{padded-length}
 use Rattle.table.proofs.Opening.{Opened, opened, turned}
 use Rattle.lookup.proofs.RowPart.{place-there, place-missing, found-part}
@@ -72,7 +72,11 @@ unfolding tableOf
 bytes-before-requires c κs =
     let o = open-at (there-at c) in
     let long = padded-length blank rowLimit (o .contents .rows) (o .whole .rows-fit) in
-    (omega (arith, fewer c, o .whole .rows-fit), omega (arith, long, ap (λ (t : Table). length (t .rows)) (o .table)))
+    let owned = padded-length noSupplier rowLimit (o .contents .suppliers) (omega (arith, o .whole .rows-fit, o .whole .suppliers-fit)) in (
+      omega (arith, fewer c, o .whole .rows-fit),
+      ap (λ (t : Table). length (t .rows)) (o .table) ∙ long,
+      ap (λ (t : Table). length (t .suppliers)) (o .table) ∙ owned,
+    )
 
 add-start : tie.Need-add-start
 add-start c =
@@ -88,7 +92,8 @@ returns-3 c =
     let row = row-at told in
     let o = open-at told in
     let rows = ap (λ (t : Table). t .rows) (o .table) in
-    let before = c .before .bytes-before .ensures .0 ∙ ap (λ (es : List Entry). length (written (take row es))) rows in
+    let owned = ap (λ (t : Table). t .suppliers) (o .table) in
+    let before = c .before .bytes-before .ensures .0 ∙ ap₂ (λ (ss : List ℕ) (es : List Entry). bytesBefore ss es row) owned rows in
     let each = ap (λ (n : ℕ). n + 1) (sized .body-size .ensures .0) in
     let start = ap₂ (λ (n m : ℕ). (sized .body-size .result + 1) * n + m) (bound told) before in
     let size = c .size-of .ensures .0 ∙ ap (λ (es : List Entry). sizeOf (getD es row blank)) rows in
