@@ -27,7 +27,7 @@ use Rattle.entries.specs.Said.{Said, answered, refusing, refusal}
 use Rattle.kinds.specs.Kinds.{kindOf, formOf}
 use Rattle.entries.specs.Entries.{numbersOf, namesOf}
 use Rattle.table.specs.Steps.{numberAt, numberPlace, entryOf, bodyOf, decodedBy, decoded}
-use Rattle.table.specs.Steps.{noRoom, limit, fits, firstUnfit, offending, misnamed, placed, permitted, judged, stepOf, shownStep}
+use Rattle.table.specs.Steps.{noRoom, limit, fits, firstUnfit, offending, misnamed, beginsRow, placed, permitted, judged, stepOf, shownStep}
 use Rattle.table.specs.Steps.{oneMore, shownEntered}
 use Rattle.table.specs.Places.{Misnames, Points}
 use Rattle.kinds.proofs.KindTable.{byte-of-kind, kind-of-byte}
@@ -68,20 +68,20 @@ decodes k body e q = go (kindOf k) refl q
             rw same at it
 
 -- an entry that was read: what it was decoded from, and that it is allowed
-abbrev pub behindOf : Entry → List ℕ → List ℕ
-behindOf e body = drop (numbersOf e) body
+abbrev pub followed : Entry → List ℕ → Bool
+followed e body = beginsRow (drop (numbersOf e) body)
 
 pub step-took : (k : ℕ) (body : List ℕ) (force : ℕ) (before : Tally) (e : Entry) → stepOf k body force before ≡ answered e →
-    Decodes k body e × Allowed (placed e force (behindOf e body)) before e
+    Decodes k body e × Allowed (placed e force (followed e body)) before e
 unfolding stepOf judged
 step-took k body force before e q = go (decoded k body) refl q
   where
     go : (d : Decoded) → decoded k body ≡ d → judged d body force before ≡ answered e →
-        Decodes k body e × Allowed (placed e force (behindOf e body)) before e
+        Decodes k body e × Allowed (placed e force (followed e body)) before e
     go Unknown p q = not-both (sym q)
     go (Cut kind) p q = not-both (sym (unless-answered (noRoom kind before) (refusing (refusal cutShort 0)) e q .1))
     go (Full f) p q =
-        let h = allowed-if f e (placed f force (behindOf f body)) before q in
+        let h = allowed-if f e (placed f force (followed f body)) before q in
         (decodes k body e (rw (h .0) at p), rw (h .0) at (h .1))
 
 -- the first offending number of an entry, among the bytes that it was decoded from
@@ -139,7 +139,7 @@ step-points k body force before why q = go (decoded k body) refl q
         (λ h. at-kind cutShort refl cc)
         (unless-refusing (noRoom kind before) (refusing (refusal cutShort 0)) why q)
     go (Full e) p q =
-        by-refusal e (placed e force (behindOf e body)) before why q
+        by-refusal e (placed e force (followed e body)) before why q
         (λ h same. at-kind (noRoom (e .kind) before) (room-at-kind (e .kind) before h) same)
         (λ bad same. at-kind idleSupplier refl same)
         (λ h. let told = misnaming-refusing e (offending e before) why h in

@@ -19,7 +19,7 @@ use Rattle.table.specs.declared.steps.Tally.{Tally}
 use Rattle.entries.specs.Said.{Said, answered, refusing, refusal}
 use Rattle.kinds.specs.Kinds.{kindOf, formOf}
 use Rattle.entries.specs.Entries.{numberLimit, bodySize, sizeOf}
-use Rattle.table.specs.Steps.{entryOf, decodedBy, decoded, limit, offending, placed, permitted, judged, stepOf}
+use Rattle.table.specs.Steps.{entryOf, decodedBy, decoded, limit, offending, beginsRow, placed, permitted, judged, stepOf}
 use Rattle.table.specs.Contents.{Contents, tallyOf, withEntry}
 use Rattle.table.specs.Reading.{after, readOn, reading}
 use Rattle.table.specs.Places.{Misnames, Speaks}
@@ -44,7 +44,7 @@ numbers-unseen k body other force before why l z apart q = go (kindOf k) apart q
     go Unlisted apart q = q
     go (Listed kind) apart q =
         let own = entryOf kind body in
-        let good = placed-anyway kind (own .a) force (drop (formOf kind .numbers) body) (λ is. apart (ap Listed is)) in
+        let good = placed-anyway kind (own .a) force (beginsRow (drop (formOf kind .numbers) body)) (λ is. apart (ap Listed is)) in
         by-order (length body) (formOf kind .numbers)
         (λ c. rw (body-cut kind other (rw l at c)) (rw (body-cut kind body c) at q))
         (λ c. by-refusal own true before why (rw (body-whole kind body c, good) at q)

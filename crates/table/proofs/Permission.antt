@@ -2,7 +2,7 @@
 -- Assumes nothing.
 use mathlib.Core.Path.{_≡_, refl, sym, ap, _∙_}
 use mathlib.Core.Bool.{Bool, true, false, cond, _&&_, _||_}
-use mathlib.Core.List.{List, [], _∷_}
+use mathlib.Core.List.{[], _∷_}
 use mathlib.Core.Logic.{_⊎_, inl, inr, ⊎-elim}
 use Prim.Native.Nat.{ℕ, zero, suc, _-_, _≤_, _<_}
 use native.Mathlib.Omega.{arith}
@@ -84,11 +84,11 @@ by-supplier (Question k) is other = other (λ q. never cc)
 by-supplier (Constraint k) is other = other (λ q. never cc)
 by-supplier Supplier is other = is refl
 
-pub placed-anyway : (kind : Kind) (a force : ℕ) (rest : List ℕ) → (kind ≡ Supplier → ⊥) → placedBy kind a force rest ≡ true
-placed-anyway (Row k) a force rest h = refl
-placed-anyway (Question k) a force rest h = refl
-placed-anyway (Constraint k) a force rest h = refl
-placed-anyway Supplier a force rest h = absurd (h refl)
+pub placed-anyway : (kind : Kind) (a force : ℕ) (follows : Bool) → (kind ≡ Supplier → ⊥) → placedBy kind a force follows ≡ true
+placed-anyway (Row k) a force follows h = refl
+placed-anyway (Question k) a force follows h = refl
+placed-anyway (Constraint k) a force follows h = refl
+placed-anyway Supplier a force follows h = absurd (h refl)
 
 -- what a table with so many entries must allow of one more
 pub record Allowed (good : Bool) (before : Tally) (e : Entry) : Type 0 where

@@ -23,7 +23,7 @@ use Rattle.entries.specs.Refusals.{cutShort, notToBeNamed, outOfOrder, atKindBy
 use Rattle.entries.specs.Said.{refusing, refusal, unless}
 use Rattle.kinds.specs.Kinds.{kindOf, formOf}
 use Rattle.entries.specs.Entries.{namesOf, bodySize}
-use Rattle.table.specs.Steps.{numberAt, entryOf, bodyOf, decodedBy, decoded, noRoom, offending, misnamed, placed, permitted, judged, stepOf}
+use Rattle.table.specs.Steps.{numberAt, entryOf, bodyOf, decodedBy, decoded, noRoom, offending, misnamed, beginsRow, placed, permitted, judged, stepOf}
 use Rattle.table.specs.Suppliers.{marked, lastOf}
 use Rattle.table.specs.Contents.{none, tallyOf, settled, written, encoded}
 use Rattle.table.specs.Reading.{after, readOn, reading}
@@ -67,19 +67,19 @@ room-refuses kind body force before h =
     (λ l. rw (body-whole kind body l) (unless-some (noRoom kind before) _ h))
 
 -- what is said of a body that is whole, but for a 60 that is not out of order
-full-kept : (e : Entry) (force : ℕ) (behind more : List ℕ) (before : Tally) (why : Refusal) → (e .kind ≡ Supplier → why .number ≡ outOfOrder) →
-    permitted e (placed e force behind) before ≡ refusing why → permitted e (placed e force more) before ≡ refusing why
+full-kept : (e : Entry) (force : ℕ) (follows other : Bool) (before : Tally) (why : Refusal) → (e .kind ≡ Supplier → why .number ≡ outOfOrder) →
+    permitted e (placed e force follows) before ≡ refusing why → permitted e (placed e force other) before ≡ refusing why
 unfolding placed permitted
-full-kept e force behind more before why h q =
+full-kept e force follows other before why h q =
     by-supplier (e .kind)
     (λ is. let number = h is in
-    by-refusal e (placed e force behind) before why q
+    by-refusal e (placed e force follows) before why q
     (λ full same. unless-some (noRoom (e .kind) before) _ full ∙ ap refusing same)
     (λ bad same. absurd (omega (arith, ap (λ (r : Refusal). r .number) same, number)))
     (λ names. let told = misnaming-refusing e (offending e before) why names .1 in
     let four : misnamed (namesOf e) ≡ notToBeNamed = ap (λ (k : Kind). misnamed (formOf k .names)) is in
     absurd (omega (arith, ap (λ (r : Refusal). r .number) told, number, four))))
-    (λ other. rw (placed-anyway (e .kind) (e .a) force more other) (rw (placed-anyway (e .kind) (e .a) force behind other) at q))
+    (λ none. rw (placed-anyway (e .kind) (e .a) force other none) (rw (placed-anyway (e .kind) (e .a) force follows none) at q))
 
 judged-kept : (kind : Kind) (rest more : List ℕ) (force : ℕ) (before : Tally) (why : Refusal) → (why .number ≡ cutShort → ⊥) →
     (kind ≡ Supplier → why .number ≡ outOfOrder) → judged (bodyOf kind rest) rest force before ≡ refusing why →
@@ -94,7 +94,7 @@ judged-kept kind rest more force before why h late q =
     ∙ sym (unless-some (noRoom kind before) (refusing (refusal cutShort 0)) full) ∙ short)
     (λ w. let own = entryOf kind rest in
     rw (body-kept kind rest more w, body-whole kind rest w)
-    (full-kept own force (drop (formOf kind .numbers) rest) _ before why late (rw (body-whole kind rest w) at q)))
+    (full-kept own force (beginsRow (drop (formOf kind .numbers) rest)) _ before why late (rw (body-whole kind rest w) at q)))
 
 step-kept : (k : ℕ) (rest more : List ℕ) (force : ℕ) (before : Tally) (why : Refusal) → (why .number ≡ cutShort → ⊥) →
     (kindOf k ≡ Listed Supplier → why .number ≡ outOfOrder) → stepOf k rest force before ≡ refusing why →
@@ -171,7 +171,7 @@ module _ (s : List ℕ) (n p : ℕ) (w : Speaks s n p) where
   read-up-to more =
       let left : drop (w .start) s ≡ kind-byte ∷ behind = bytes-from s (w .start) (omega (arith, from, w .within)) in
       let at : length (encoded (w .before)) ≡ w .start = ap length (sym (w .bytes)) ∙ length-take-le (w .start) s (omega (arith, from, w .within)) in
-      let stands : Open (w .before) (kind-byte ∷ more) = record {
+      let stands : Open (w .before) (beginsRow (kind-byte ∷ more)) = record {
         whole = of-accepted (encoded (settled (w .before))) (settled (w .before)) (w .reached .accepted) .0;
         awaits = rw left at (w .reached .awaits);
       } in

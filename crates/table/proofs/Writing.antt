@@ -30,7 +30,7 @@ use Rattle.kinds.proofs.KindTable.{kind-of-byte, is-row, is-question, is-constr
 use Rattle.entries.proofs.Numbers.{by-equal}
 use Rattle.entries.proofs.OneEntry.{few, length-front, size}
 use Rattle.table.proofs.Permission.{Room, room-of, room-for, Allowed, permitted-if}
-use Rattle.table.proofs.Decoding.{body-whole, Decodes, behindOf, step-took}
+use Rattle.table.proofs.Decoding.{body-whole, Decodes, followed, step-took}
 use Rattle.table.proofs.Marking.{unchanged, changed, last-append, marked-append}
 use Rattle.table.proofs.Turns.{enough, read-none}
 
@@ -94,7 +94,7 @@ behind-own : (e : Entry) (s : List ℕ) → drop (numbersOf e) (take (numbersOf 
 behind-own e s = drop-at (take (numbersOf e) (e .a ∷ e .b ∷ [])) s (numbersOf e) (length-front (numbersOf e) (e .a) (e .b) (few (e .kind)))
 
 pub own-judged : (e : Entry) (s : List ℕ) (force : ℕ) (before : Tally) → Tidy e →
-    stepOf (formOf (e .kind) .byte) (take (numbersOf e) (e .a ∷ e .b ∷ []) ++ s) force before ≡ permitted e (placed e force s) before
+    stepOf (formOf (e .kind) .byte) (take (numbersOf e) (e .a ∷ e .b ∷ []) ++ s) force before ≡ permitted e (placed e force (beginsRow s)) before
 unfolding stepOf decoded judged
 own-judged e s force before t =
     let body = take (numbersOf e) (e .a ∷ e .b ∷ []) ++ s in
@@ -105,9 +105,9 @@ own-judged e s force before t =
     rw (length-append (take (numbersOf e) (e .a ∷ e .b ∷ [])) s) (omega (arith, length-front (numbersOf e) (e .a) (e .b) (few (e .kind)))) in
     rw (kind-of-byte (e .kind), body-whole (e .kind) body w, p, q, behind-own e s)
 
-own-step : (e : Entry) (s : List ℕ) (force : ℕ) (before : Tally) → Allowed (placed e force s) before e → Tidy e →
+own-step : (e : Entry) (s : List ℕ) (force : ℕ) (before : Tally) → Allowed (placed e force (beginsRow s)) before e → Tidy e →
     stepOf (formOf (e .kind) .byte) (take (numbersOf e) (e .a ∷ e .b ∷ []) ++ s) force before ≡ answered e
-own-step e s force before h t = own-judged e s force before t ∙ permitted-if e (placed e force s) before h
+own-step e s force before h t = own-judged e s force before t ∙ permitted-if e (placed e force (beginsRow s)) before h
 
 -- entries written one after the other
 pub written-append : (es fs : List Entry) → written (es ++ fs) ≡ written es ++ written fs
@@ -134,23 +134,23 @@ unfolding lastOf
 last-low i force [] low h = low
 last-low i force (s ∷ ss) low h = last-low (suc i) s ss (h .0) (h .1)
 
--- contents that keep the rules, but that a 60 may wait, and the bytes behind them begin as that asks
-pub record Open (c : Contents) (rest : List ℕ) : Type 0 where
+-- contents that keep the rules, but that a 60 may wait for its row, which then follows
+pub record Open (c : Contents) (follows : Bool) : Type 0 where
   pub whole : Whole (settled c)
-  pub awaits : Awaits c rest
+  pub awaits : Awaits c follows
 
-in-force-low : (c : Contents) (rest : List ℕ) → Open c rest → c .supplier < numberLimit
-in-force-low c rest o =
+in-force-low : (c : Contents) (follows : Bool) → Open c follows → c .supplier < numberLimit
+in-force-low c follows o =
     ⊎-elim (λ q. rw q (last-low 0 noSupplier (c .suppliers) (omega arith) (o .whole .suppliers-sound))) (λ h. h .2) (o .awaits)
 
 -- an entry's own bytes begin with a row's kind byte exactly if it is a row
-begins-own : (e : Entry) (rest : List ℕ) → beginsRow (bytesOf e ++ rest) ≡ isRow (e .kind)
+pub begins-own : (e : Entry) (rest : List ℕ) → beginsRow (bytesOf e ++ rest) ≡ isRow (e .kind)
 unfolding bytesOf
 begins-own e rest = ap ofRow (kind-of-byte (e .kind))
 
--- so where it is none, no 60 waits
-calm : (c : Contents) (e : Entry) (rest : List ℕ) → Awaits c (bytesOf e ++ rest) → isRow (e .kind) ≡ false → c .supplier ≡ lastSupplier c
-calm c e rest awaits h = ⊎-elim (λ q. q) (λ w. never (sym (w .0) ∙ begins-own e rest ∙ h)) awaits
+-- where no row follows, no 60 waits
+pub calm : (c : Contents) (follows : Bool) → Awaits c follows → follows ≡ false → c .supplier ≡ lastSupplier c
+calm c follows awaits h = ⊎-elim (λ q. q) (λ w. never (sym (w .0) ∙ h)) awaits
 
 -- the entry that a supplier brings
 only-supplier : (e : Entry) → e .kind ≡ Supplier → Tidy e → supplying (e .a) ≡ e
@@ -159,20 +159,20 @@ only-supplier e p t =
     let same : record { kind = Supplier; a = e .a; b = 0 } ≡ e = rw (← p, ← none) in
     same
 
--- a supplier that is allowed is another than the one in force, and a row's kind byte follows
-supplier-placed : (e : Entry) (force : ℕ) (rest : List ℕ) → e .kind ≡ Supplier → placed e force rest ≡ true →
-    (e .a ≡ force → ⊥) × (beginsRow rest ≡ true)
+-- a supplier that is allowed is another than the one in force, and a row follows
+supplier-placed : (e : Entry) (force : ℕ) (follows : Bool) → e .kind ≡ Supplier → placed e force follows ≡ true →
+    (e .a ≡ force → ⊥) × (follows ≡ true)
 unfolding placed
-supplier-placed e force rest p h =
-    let parts = both-parts (not (eqb (e .a) force)) (beginsRow rest) (rw p at h) in
+supplier-placed e force follows p h =
+    let parts = both-parts (not (eqb (e .a) force)) follows (rw p at h) in
     (λ q. never (sym (ap not (sym (eq-eqb (e .a) force q)) ∙ parts .0)), parts .1)
 
 supplier-low : (e : Entry) (before : Tally) → e .kind ≡ Supplier → named e before ≡ true → e .a < numberLimit
 supplier-low e before p h = ltb-true (e .a) numberLimit (both-parts _ _ (rw p at h) .0)
 
 -- an entry that is allowed keeps the contents so, and stands behind the other entries
-module _ (c : Contents) (e : Entry) (t : Tidy e) (rest : List ℕ) (o : Open c (bytesOf e ++ rest))
-    (a : Allowed (placed e (c .supplier) rest) (tallyOf c) e) where
+module _ (c : Contents) (e : Entry) (t : Tidy e) (follows : Bool) (o : Open c (isRow (e .kind)))
+    (a : Allowed (placed e (c .supplier) follows) (tallyOf c) e) where
   abbrev so-far : Whole (settled c)
   so-far = o .whole
 
@@ -199,7 +199,7 @@ module _ (c : Contents) (e : Entry) (t : Tidy e) (rest : List ℕ) (o : Open c (
         constraints-sound = so-far .constraints-sound;
         rows-sound = each-more (RowAt (length (c .constraints))) 0 (c .rows) e (so-far .rows-sound) (sound isRow (before-it (0 + n) 0) (rw p) before);
         suppliers-fit = omega (arith, length-append (c .rows) (e ∷ []), length-append (c .suppliers) (c .supplier ∷ []), so-far .suppliers-fit);
-        suppliers-sound = each-more SupplierAt 0 (c .suppliers) (c .supplier) (so-far .suppliers-sound) (in-force-low c (bytesOf e ++ rest) o);
+        suppliers-sound = each-more SupplierAt 0 (c .suppliers) (c .supplier) (so-far .suppliers-sound) (in-force-low c (isRow (e .kind)) o);
         settles = refl;
         questions-sound = rw (none-of (c .questions) (room .1)) tt;
       }
@@ -236,17 +236,17 @@ module _ (c : Contents) (e : Entry) (t : Tidy e) (rest : List ℕ) (o : Open c (
 
   -- where the entry is no row, no 60 waits
   calm-here : (kind : Kind) → e .kind ≡ kind → isRow kind ≡ false → c .supplier ≡ lastSupplier c
-  calm-here kind p h = calm c e rest (o .awaits) (ap isRow p ∙ h)
+  calm-here kind p h = calm c (isRow (e .kind)) (o .awaits) (ap isRow p ∙ h)
 
-  with-awaits : (kind : Kind) → e .kind ≡ kind → Awaits (withKind kind e c) rest
+  with-awaits : (kind : Kind) → e .kind ≡ kind → Awaits (withKind kind e c) follows
   unfolding lastOf
   with-awaits (Row r) p = inl (sym (last-append noSupplier (c .suppliers) (c .supplier ∷ [])))
   with-awaits (Question q) p = inl (calm-here (Question q) p refl)
   with-awaits (Constraint k) p = inl (calm-here (Constraint k) p refl)
   with-awaits Supplier p =
-      inr (supplier-placed e (c .supplier) rest p (a .places) .1, none-of (c .questions) (room-by-kind Supplier p), supplier-low e (tallyOf c) p (a .names))
+      inr (supplier-placed e (c .supplier) follows p (a .places) .1, none-of (c .questions) (room-by-kind Supplier p), supplier-low e (tallyOf c) p (a .names))
 
-  pub next-open : Open (withEntry c e) rest
+  pub next-open : Open (withEntry c e) follows
   next-open = record { whole = with-whole (e .kind) refl; awaits = with-awaits (e .kind) refl }
 
   -- no 60 waits: the rows with their 60s are all
@@ -282,7 +282,7 @@ module _ (c : Contents) (e : Entry) (t : Tidy e) (rest : List ℕ) (o : Open c (
   with-entries Supplier p =
       let empty = none-of (c .questions) (room-by-kind Supplier p) in
       let still = calm-here Supplier p refl in
-      let other = supplier-placed e (c .supplier) rest p (a .places) .0 in
+      let other = supplier-placed e (c .supplier) follows p (a .places) .0 in
       let one : change (lastSupplier c) (e .a) ≡ e ∷ [] =
       changed (lastSupplier c) (e .a) (λ q. other (q ∙ sym still)) ∙ ap (λ (e : Entry). e ∷ []) (only-supplier e p t) in
       let rows = marked noSupplier (c .suppliers) (c .rows) in
@@ -299,7 +299,7 @@ pub record Stopped (c : Contents) (s : List ℕ) (why : Refusal) : Type 0 where
   pub before : Contents
   pub kind : ℕ
   pub rest : List ℕ
-  pub stands : Open before (kind ∷ rest)
+  pub stands : Open before (beginsRow (kind ∷ rest))
   pub bytes : encoded before ++ (kind ∷ rest) ≡ encoded c ++ s
   pub here : Refusal
   pub bad : stepOf kind rest (before .supplier) (tallyOf before) ≡ refusing here
@@ -315,12 +315,11 @@ came-from c d s u q (refusing why) h =
     record { before = h .before; kind = h .kind; rest = h .rest; stands = h .stands; bytes = h .bytes ∙ q; here = h .here; bad = h .bad; is = h .is }
 
 -- at the end of the bytes no 60 waits
-came-end : (c : Contents) → Open c [] → Came c [] (answered c)
+came-end : (c : Contents) → Open c false → Came c [] (answered c)
 came-end c o =
-    let whole : Whole c = ⊎-elim (λ q. rw (settled-same c q) at (o .whole)) (λ w. never (sym (w .0))) (o .awaits) in
-    (whole, sym (append-nil (encoded c)))
+    (rw (settled-same c (calm c false (o .awaits) refl)) at (o .whole), sym (append-nil (encoded c)))
 
-came : (f : ℕ) (c : Contents) (at : ℕ) (s : List ℕ) → length s ≤ f → at ≡ length (encoded c) → Open c s → Came c s (readOn f c at s)
+came : (f : ℕ) (c : Contents) (at : ℕ) (s : List ℕ) → length s ≤ f → at ≡ length (encoded c) → Open c (beginsRow s) → Came c s (readOn f c at s)
 unfolding readOn after
 came zero c at [] h p o = came-end c o
 came zero c at (k ∷ s) h p o = absurd (omega arith)
@@ -330,7 +329,7 @@ came (suc f) c at (k ∷ s) h p o =
     (λ d e q v. came f d (at + sizeOf e) (drop (sizeOf e) (k ∷ s)) (omega (arith, size e, length-drop (sizeOf e) (k ∷ s))) q v)
   where
     go : (x : Said Entry) → stepOf k s (c .supplier) (tallyOf c) ≡ x →
-        ((d : Contents) (e : Entry) → at + sizeOf e ≡ length (encoded d) → Open d (drop (sizeOf e) (k ∷ s)) → Came d (drop (sizeOf e) (k ∷ s))
+        ((d : Contents) (e : Entry) → at + sizeOf e ≡ length (encoded d) → Open d (beginsRow (drop (sizeOf e) (k ∷ s))) → Came d (drop (sizeOf e) (k ∷ s))
         (readOn f d (at + sizeOf e) (drop (sizeOf e) (k ∷ s)))) →
         Came c (k ∷ s) (after x c at (λ size d. readOn f d (at + size) (drop size (k ∷ s))))
     go (answered e) q on =
@@ -338,15 +337,16 @@ came (suc f) c at (k ∷ s) h p o =
         let t = decoded-tidy k s e (took .0) in
         let rest = drop (sizeOf e) (k ∷ s) in
         let own : bytesOf e ++ rest ≡ k ∷ s = decoded-bytes k s e (took .0) in
-        let here : Open c (bytesOf e ++ rest) = rw own o in
-        let behind : behindOf e s ≡ rest = rw (size e) in
-        let allowed : Allowed (placed e (c .supplier) rest) (tallyOf c) e = rw behind at (took .1) in
-        let more = next-bytes c e t rest here allowed in
+        let row : isRow (e .kind) ≡ beginsRow (k ∷ s) = sym (begins-own e rest) ∙ ap beginsRow own in
+        let here : Open c (isRow (e .kind)) = rw row o in
+        let behind : followed e s ≡ beginsRow rest = rw (size e) in
+        let allowed : Allowed (placed e (c .supplier) (beginsRow rest)) (tallyOf c) e = rw behind at (took .1) in
+        let more = next-bytes c e t (beginsRow rest) here allowed in
         let bytes : encoded (withEntry c e) ++ rest ≡ encoded c ++ (k ∷ s) =
         rw more (append-assoc (encoded c) (bytesOf e) rest ∙ ap (λ (l : List ℕ). encoded c ++ l) own) in
         let place : at + sizeOf e ≡ length (encoded (withEntry c e)) = omega (arith, ap length more, length-append (encoded c) (bytesOf e)) in
         came-from c (withEntry c e) (k ∷ s) rest bytes (readOn f (withEntry c e) (at + sizeOf e) rest)
-        (on (withEntry c e) e place (next-open c e t rest here allowed))
+        (on (withEntry c e) e place (next-open c e t (beginsRow rest) here allowed))
     go (refusing why) q on = record { before = c; kind = k; rest = s; stands = o; bytes = refl; here = why; bad = q; is = rw p }
 
 -- the empty table is whole
@@ -365,12 +365,12 @@ none-whole = record {
 }
 
 -- a table that keeps the rules waits for nothing
-pub whole-open : (c : Contents) (rest : List ℕ) → Whole c → Open c rest
-whole-open c rest w = record { whole = rw (settled-same c (w .settles)) w; awaits = inl (w .settles) }
+pub whole-open : (c : Contents) (follows : Bool) → Whole c → Open c follows
+whole-open c follows w = record { whole = rw (settled-same c (w .settles)) w; awaits = inl (w .settles) }
 
 read-came : (s : List ℕ) → Came none s (reading s)
 unfolding reading written marked lastOf
-read-came s = came (length s) none 0 s (omega arith) refl (whole-open none s none-whole)
+read-came s = came (length s) none 0 s (omega arith) refl (whole-open none (beginsRow s) none-whole)
 
 -- what an accepted table is, and where a refused one stopped
 pub of-accepted : (s : List ℕ) (c : Contents) → reading s ≡ answered c → Whole c × (encoded c ≡ s)
@@ -381,7 +381,8 @@ pub of-refused : (s : List ℕ) (why : Refusal) → reading s ≡ refusing why �
 of-refused s why q = rw q at (read-came s)
 
 -- reading an entry's own bytes
-own-read : (c : Contents) (e : Entry) (s : List ℕ) (f at : ℕ) → Allowed (placed e (c .supplier) s) (tallyOf c) e → Tidy e → length (bytesOf e ++ s) ≤ f →
+own-read : (c : Contents) (e : Entry) (s : List ℕ) (f at : ℕ) → Allowed (placed e (c .supplier) (beginsRow s)) (tallyOf c) e → Tidy e →
+    length (bytesOf e ++ s) ≤ f →
     readOn f c at (bytesOf e ++ s) ≡ readOn (length s) (withEntry c e) (at + sizeOf e) s
 unfolding readOn after bytesOf
 own-read c e s zero at h t l = absurd (omega arith)
@@ -395,7 +396,7 @@ module _ (holding : List Entry → Contents) (part : Kind → Bool) (limit : ℕ
     (counted : (es : List Entry) → tallyOf (holding es) ≡ before (length es))
     (takes : (es : List Entry) (e : Entry) → part (e .kind) ≡ true → withEntry (holding es) e ≡ holding (es ++ (e ∷ [])))
     (room : (n : ℕ) (kind : Kind) → part kind ≡ true → n < limit → noRoom kind (before n) ≡ 0)
-    (good : (kind : Kind) (a force : ℕ) (rest : List ℕ) → part kind ≡ true → placedBy kind a force rest ≡ true) where
+    (good : (kind : Kind) (a force : ℕ) (follows : Bool) → part kind ≡ true → placedBy kind a force follows ≡ true) where
   -- reading the bytes of entries of that part comes to the table that has them too
   part-read : (es pre : List Entry) (s : List ℕ) (f at : ℕ) → Each (λ i. Sound part (before i)) (length pre) es → length pre + length es ≤ limit →
       length (written es ++ s) ≤ f → readOn f (holding pre) at (written es ++ s) ≡ readOn (length s) (holding (pre ++ es)) (at + length (written es)) s
@@ -405,11 +406,11 @@ module _ (holding : List Entry → Contents) (part : Kind → Bool) (limit : ℕ
       rw (append-nil pre, z) (enough f (length s) (holding pre) at s l (omega arith))
   part-read (e ∷ es) pre s f at h fits l =
       let force = holding pre .supplier in
-      let rest = written es ++ s in
-      let allowed : Allowed (placed e force rest) (tallyOf (holding pre)) e =
+      let follows = beginsRow (written es ++ s) in
+      let allowed : Allowed (placed e force follows) (tallyOf (holding pre)) e =
       rw (counted pre) (record {
         room = room (length pre) (e .kind) (h .0 .in-part) (omega arith);
-        places = good (e .kind) (e .a) force rest (h .0 .in-part);
+        places = good (e .kind) (e .a) force follows (h .0 .in-part);
         names = h .0 .names;
       }) in
       let one : length (pre ++ (e ∷ [])) ≡ suc (length pre) = length-append pre (e ∷ []) ∙ omega arith in
@@ -435,7 +436,7 @@ constraints-read es s h fits =
     part-read bounding isConstraint constraintLimit (λ i. tally i 0 0) (λ es. refl)
     (λ es e k. ap (λ (k : Kind). withKind k e (bounding es)) (is-constraint (e .kind) k))
     (λ n kind k l. rw (is-constraint kind k) (room-for (Constraint (asConstraint kind)) (tally n 0 0) (l, refl, refl)))
-    (λ kind a force rest k. rw (is-constraint kind k))
+    (λ kind a force follows k. rw (is-constraint kind k))
     es [] s (length (written es ++ s)) 0 h (omega arith) (omega arith)
 
 -- a 60 that is needed before a row, if one is
@@ -453,7 +454,7 @@ change-read c s rest f at none low begins l =
     (λ q. let goes = changed (c .supplier) s q in
     let own = append-nil (bytesOf (supplying s)) in
     let enough : length (bytesOf (supplying s) ++ rest) ≤ f = rw (goes, own) at l in
-    let allowed : Allowed (placed (supplying s) (c .supplier) rest) (tallyOf c) (supplying s) = record {
+    let allowed : Allowed (placed (supplying s) (c .supplier) (beginsRow rest)) (tallyOf c) (supplying s) = record {
       room = room-for Supplier (tallyOf c) (ap length none);
       places = rw (ne-eqb s (c .supplier) q, begins);
       names = rw (lt-ltb s numberLimit low);
@@ -479,7 +480,7 @@ rows-read constraints (e ∷ es) pre (x ∷ ss) owned force s f at q h low fits 
     let is = is-row (e .kind) (h .0 .in-part) in
     let bytes : written (change force x ++ (e ∷ marked x ss es)) ++ s ≡ first ++ (bytesOf e ++ (rest ++ s)) =
     rw (written-append (change force x) (e ∷ marked x ss es), append-assoc first (bytesOf e ++ rest) s, append-assoc (bytesOf e) rest s) in
-    let allowed : Allowed (placed e x (rest ++ s)) (tallyOf c) e = record {
+    let allowed : Allowed (placed e x (beginsRow (rest ++ s))) (tallyOf c) e = record {
       room = rw is (room-for (Row (asRow (e .kind))) (tallyOf c) (omega arith, refl));
       places = rw is;
       names = h .0 .names;
@@ -504,7 +505,7 @@ questions-read c es s at h fits =
     part-read (asking c) isQuestion questionLimit so-far (λ es. refl)
     (λ es e k. ap (λ (k : Kind). withKind k e (asking c es)) (is-question (e .kind) k))
     (λ n kind k l. rw (is-question kind k) (room-for (Question (asQuestion kind)) (so-far n) l))
-    (λ kind a force rest k. rw (is-question kind k))
+    (λ kind a force follows k. rw (is-question kind k))
     es [] s (length (written es ++ s)) at h (omega arith) (omega arith)
 
 -- the bytes of a table in which no 60 waits, part by part
@@ -537,7 +538,7 @@ pub whole-accepted : (c : Contents) → Whole c → reading (encoded c) ≡ answ
 whole-accepted c w = ap reading (sym (append-nil (encoded c))) ∙ read-past c [] w ∙ read-none 0 c (length (encoded c))
 
 -- the same where a 60 waits, before bytes that begin as it asks
-pub read-open : (c : Contents) (s : List ℕ) → Open c s → reading (encoded c ++ s) ≡ readOn (length s) c (length (encoded c)) s
+pub read-open : (c : Contents) (s : List ℕ) → Open c (beginsRow s) → reading (encoded c ++ s) ≡ readOn (length s) c (length (encoded c)) s
 read-open c s o = ⊎-elim calmly waiting (o .awaits)
   where
     calmly : c .supplier ≡ lastSupplier c → reading (encoded c ++ s) ≡ readOn (length s) c (length (encoded c)) s

@@ -1,7 +1,7 @@
 -- What a refusal of reading's says, and what its place points at (01, "When we say no"; 02, L1 and L6).
 use Prim.Native.Nat.{ℕ, _+_, _-_, _≤_, _<_}
 use mathlib.Core.Path.{_≡_}
-use mathlib.Core.Bool.{true}
+use mathlib.Core.Bool.{Bool, true}
 use mathlib.Core.List.{List, []}
 use mathlib.Core.Logic.{_⊎_}
 use lib.ListN.{length, getD, take, drop}
@@ -31,14 +31,14 @@ pub record Misnames (s : List ℕ) (start : ℕ) (before : Tally) (number place 
 abbrev pub Points : List ℕ → ℕ → Tally → ℕ → ℕ → Type 0
 Points s start before number place = ((isAmong atKindByte number ≡ true) × (place ≡ start)) ⊎ Misnames s start before number place
 
--- no 60 waits for its row, or one does and a row's kind byte follows (02, L6)
-abbrev pub Awaits : Contents → List ℕ → Type 0
-Awaits c rest = (c .supplier ≡ lastSupplier c) ⊎ ((beginsRow rest ≡ true) × (c .questions ≡ []) × (c .supplier < numberLimit))
+-- no 60 waits for its row, or one does and a row follows (02, L6)
+abbrev pub Awaits : Contents → Bool → Type 0
+Awaits c follows = (c .supplier ≡ lastSupplier c) ⊎ ((follows ≡ true) × (c .questions ≡ []) × (c .supplier < numberLimit))
 
--- contents that reading has come to, behind which these bytes are left: an accepted table, or one and a 60 that waits
-pub record Reached (c : Contents) (rest : List ℕ) : Type 0 where
+-- contents that reading has come to: an accepted table, or one and a 60 that waits
+pub record Reached (c : Contents) (follows : Bool) : Type 0 where
   pub accepted : reading (encoded (settled c)) ≡ answered (settled c)
-  pub awaits : Awaits c rest
+  pub awaits : Awaits c follows
 
 -- "the first bad entry speaks": reading comes to its start, where it brings the refusal, and to it the place points. It lies within the table, past whose end
 -- `getD` would read 0, a kind that is listed.
@@ -46,7 +46,7 @@ pub record Speaks (s : List ℕ) (number place : ℕ) : Type 0 where
   pub start : ℕ
   pub before : Contents
   pub bytes : take start s ≡ encoded before
-  pub reached : Reached before (drop start s)
+  pub reached : Reached before (beginsRow (drop start s))
   pub brings : stepOf (getD s start 0) (drop (start + 1) s) (before .supplier) (tallyOf before) ≡ refusing (refusal number (place - start))
   pub points : Points s start (tallyOf before) number place
   pub within : place < length s

@@ -133,15 +133,15 @@ beginsRow [] = false
 beginsRow (k ∷ s) = ofRow (kindOf k)
 
 -- 15 is "a 60 that repeats the supplier in force or is not followed by a row's kind byte" (02, L6): whether an entry is none, by its kind, its first number,
--- the supplier in force and the bytes behind it
-abbrev pub placedBy : Kind → ℕ → ℕ → List ℕ → Bool
-placedBy (Row k) s force rest = true
-placedBy (Question k) s force rest = true
-placedBy (Constraint k) s force rest = true
-placedBy Supplier s force rest = not (eqb s force) && beginsRow rest
+-- the supplier in force, and whether a row follows
+abbrev pub placedBy : Kind → ℕ → ℕ → Bool → Bool
+placedBy (Row k) s force follows = true
+placedBy (Question k) s force follows = true
+placedBy (Constraint k) s force follows = true
+placedBy Supplier s force follows = not (eqb s force) && follows
 
-unfoldable pub placed : Entry → ℕ → List ℕ → Bool
-placed e force rest = placedBy (e .kind) (e .a) force rest
+unfoldable pub placed : Entry → ℕ → Bool → Bool
+placed e force follows = placedBy (e .kind) (e .a) force follows
 
 abbrev pub ifIdle : Bool → ℕ
 ifIdle good = cond good 0 idleSupplier
@@ -154,7 +154,7 @@ permitted e good before = unless (noRoom (e .kind) before) (unless (ifIdle good)
 unfoldable pub judged : Decoded → List ℕ → ℕ → Tally → Said Entry
 judged Unknown body force before = refusing (refusal unlisted 0)
 judged (Cut kind) body force before = unless (noRoom kind before) (refusing (refusal cutShort 0))
-judged (Full e) body force before = permitted e (placed e force (drop (numbersOf e) body)) before
+judged (Full e) body force before = permitted e (placed e force (beginsRow (drop (numbersOf e) body))) before
 
 -- the entry whose kind byte is k, followed by these bytes, behind a supplier in force and so many others
 unfoldable pub stepOf : ℕ → List ℕ → ℕ → Tally → Said Entry

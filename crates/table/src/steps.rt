@@ -220,7 +220,7 @@ fn row_at(s: &[u8], at: usize) -> bool
 
 // Whether an entry behind a supplier in force is no idle supplier; the next entry's kind byte would stand at a place.
 fn placed_at(e: Entry, force: u8, s: &[u8], next: usize) -> bool
-    ensures { λ r. ⌜ r ≡ placed e force (drop next (now (s .entry))) ⌝ }
+    ensures { λ r. ⌜ r ≡ placed e force (beginsRow (drop next (now (s .entry)))) ⌝ }
 {
     let kind = e.kind;
     match kind {
