@@ -5,8 +5,8 @@ use mathlib.Core.List.{List, [], _∷_, _++_, append-nil}
 use mathlib.Core.Logic.{_⊎_, ⊎-elim}
 use Prim.Native.Nat.{ℕ, zero, suc, _+_, _-_, _≤_, _<_}
 use native.Mathlib.Omega.{arith}
-use lib.ListN.{length, getD, take, replicate, length-append, length-replicate, List·getD-append}
-use lib.Seq.{getD-at, getD-append-add, ext-getD, take-append-add, take-length}
+use lib.ListN.{length, getD, take, drop, replicate, length-append, length-replicate, take-append-drop, List·getD-append}
+use lib.Seq.{getD-at, getD-append-add, ext-getD, take-append-add, take-length, length-take-le}
 use Rattle.entries.specs.declared.Entry.{Entry}
 use Rattle.table.specs.declared.Table.{Table}
 use Rattle.entries.specs.Entries.{blank}
@@ -257,3 +257,14 @@ module _ (t : Table) where
   held-all i q =
       let all : i ≡ length (numbered (contentsIn t)) = q ∙ sym numbered-length in
       rw (all, take-length (numbered (contentsIn t)), ← both-count, take-length (allOwners (contentsIn t))) (sym (all-marked (contentsIn t) one-each refl))
+
+  -- and what is written first is the front of all
+  pub held-front : (i : ℕ) → i ≤ bound + used + asked →
+      held t ≡ heldTo i ++ marked (inForce i) (drop i (allOwners (contentsIn t))) (drop i (numbered (contentsIn t)))
+  held-front i h =
+      let ss = allOwners (contentsIn t) in
+      let es = numbered (contentsIn t) in
+      let both : length (take i ss) ≡ length (take i es) =
+      length-take-le i ss (omega (arith, both-count, numbered-length)) ∙ sym (length-take-le i es (omega (arith, numbered-length))) in
+      all-marked (contentsIn t) one-each refl ∙ ap₂ (marked noSupplier) (sym (take-append-drop i ss)) (sym (take-append-drop i es))
+      ∙ marked-append noSupplier (take i ss) (drop i ss) (take i es) (drop i es) both

@@ -22,11 +22,11 @@ use Rattle.kinds.specs.Kinds.{formOf, isRow, isConstraint, asRow}
 use Rattle.entries.specs.Entries.{numbersOf, namesOf, bodySize, sizeOf, sizeLimit, constraintSize, supplierSize, blank, bytesOf, uses, usedBy}
 use Rattle.table.specs.Steps.{tally, predicateLimit, rowLimit, questionLimit, constraintLimit, byteLimit, limit, namedAt, fits}
 use Rattle.table.specs.Suppliers.{noSupplier, supplying, change, marked}
-use Rattle.table.specs.Contents.{Contents, Covers, highest, predicates, written, encoded}
+use Rattle.table.specs.Contents.{Contents, Covers, lastSupplier, settled, ruled, highest, predicates, written, encoded}
 use Rattle.table.specs.Reading.{reading}
 use Rattle.table.specs.Whole.{named}
 use Rattle.entries.proofs.OneEntry.{few, size, usedAt, used-by-both}
-use Rattle.table.proofs.Writing.{Sound, Each, each-get, written-append, written-parts, of-accepted, ConstraintAt, RowAt, QuestionAt}
+use Rattle.table.proofs.Writing.{Sound, Each, each-get, written-append, written-parts, Open, of-accepted, whole-accepted, ConstraintAt, RowAt, QuestionAt}
 
 -- no entry has more bytes than the longest
 written-short : (es : List Entry) → length (written es) ≤ sizeLimit * length es
@@ -204,3 +204,26 @@ module _ (s : List ℕ) (c : Contents) (q : reading s ≡ answered c) where
   -- its bytes are those of its contents
   pub written-back : encoded c ≡ s
   written-back = of-accepted s c q .1
+
+-- with a 60 that waits for its row, it may be longer by that
+pub open-short : (c : Contents) (follows : Bool) → Open c follows → length (encoded c) ≤ byteLimit + supplierSize
+open-short c follows o =
+    let d = settled c in
+    let rows = marked noSupplier (c .suppliers) (c .rows) in
+    let last = change (lastSupplier c) (c .supplier) in
+    let constraints = written (c .constraints) in
+    let questions = written (c .questions) in
+    let all : encoded c ≡ constraints ++ ((written rows ++ written last) ++ questions) =
+    rw (written-append (c .constraints) (ruled c ++ c .questions), written-append (ruled c) (c .questions), written-append rows last) in
+    omega (
+      arith,
+      limits (encoded d) d (whole-accepted d (o .whole)) .3,
+      ap length (written-parts d refl),
+      length-append constraints (written rows ++ questions),
+      length-append (written rows) questions,
+      ap length all,
+      length-append constraints ((written rows ++ written last) ++ questions),
+      length-append (written rows ++ written last) questions,
+      length-append (written rows) (written last),
+      change-short (lastSupplier c) (c .supplier),
+    )

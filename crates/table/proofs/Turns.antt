@@ -18,7 +18,7 @@ use Rattle.table.specs.declared.Table.{Table}
 use Rattle.entries.specs.Said.{Said, answered, refusing, refusal}
 use Rattle.entries.specs.Entries.{blank, uses, sizeOf}
 use Rattle.table.specs.Steps.{rowLimit, questionLimit, constraintLimit, oneMore, noRoom, stepOf}
-use Rattle.table.specs.Suppliers.{noSupplier}
+use Rattle.table.specs.Suppliers.{noSupplier, forceBehind}
 use Rattle.table.specs.Contents.{Contents, none, tallyOf, withKind, withEntry, highest, predicates}
 use Rattle.table.specs.Reading.{after, readOn, reading, tableOf}
 use Rattle.table.proofs.Padding.{padded-more, padded-next}
@@ -100,13 +100,7 @@ stored-predicates (Constraint k) force e t = refl
 stored-predicates Supplier force e t = refl
 
 -- the supplier in force behind an entry
-abbrev pub forceBehind : Kind → ℕ → Entry → ℕ
-forceBehind (Row k) force e = force
-forceBehind (Question k) force e = force
-forceBehind (Constraint k) force e = force
-forceBehind Supplier force e = e .a
-
-with-force : (kind : Kind) (e : Entry) (c : Contents) → withKind kind e c .supplier ≡ forceBehind kind (c .supplier) e
+pub with-force : (kind : Kind) (e : Entry) (c : Contents) → withKind kind e c .supplier ≡ forceBehind kind (c .supplier) (e .a)
 with-force (Row k) e c = refl
 with-force (Question k) e c = refl
 with-force (Constraint k) e c = refl
@@ -199,7 +193,7 @@ module _ (s : List ℕ) (t : Table) (force at : ℕ) (h : At s t force at) (l : 
   pub inside-of : (e : Entry) → here ≡ answered e → at + sizeOf e ≤ length s
   inside-of e q = let w = step-took (getD s at 0) (drop (at + 1) s) force (t .tally) e q in omega (arith, w .0 .whole, size e, length-drop (at + 1) s)
 
-  pub taken : (e : Entry) (u : Table) (v : ℕ) → here ≡ answered e → u ≡ tableOf (withEntry (h .contents) e) → v ≡ forceBehind (e .kind) force e →
+  pub taken : (e : Entry) (u : Table) (v : ℕ) → here ≡ answered e → u ≡ tableOf (withEntry (h .contents) e) → v ≡ forceBehind (e .kind) force (e .a) →
       At s u v (at + sizeOf e)
   unfolding after
   taken e u v q r w =
@@ -208,7 +202,7 @@ module _ (s : List ℕ) (t : Table) (force at : ℕ) (h : At s t force at) (l : 
       record {
         contents = withEntry (h .contents) e;
         stands = r;
-        in-force = w ∙ ap (λ (f : ℕ). forceBehind (e .kind) f e) (h .in-force) ∙ sym (with-force (e .kind) e (h .contents));
+        in-force = w ∙ ap (λ (f : ℕ). forceBehind (e .kind) f (e .a)) (h .in-force) ∙ sym (with-force (e .kind) e (h .contents));
         one-each = with-each (e .kind) e (h .contents) (h .one-each);
         inside = inside-of e q;
         left = enough _ _ (withEntry (h .contents) e) (at + sizeOf e) (drop (at + sizeOf e) s) (omega (arith, n)) (omega (arith, n, size e)) ∙ on;

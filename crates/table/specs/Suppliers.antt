@@ -3,7 +3,8 @@ use Prim.Native.Nat.{ℕ}
 use mathlib.Core.Bool.{cond}
 use mathlib.Core.List.{List, [], _∷_, _++_}
 use lib.Dec.{eqb}
-use Rattle.kinds.specs.declared.Kind.the-variants.{Supplier}
+use Rattle.kinds.specs.declared.Kind.{Kind}
+use Rattle.kinds.specs.declared.Kind.the-variants.{Row, Question, Constraint, Supplier}
 use Rattle.entries.specs.declared.Entry.{Entry}
 
 -- "Each row gets a supplier number, 0 unless …"
@@ -24,7 +25,14 @@ marked force ss [] = []
 marked force [] (e ∷ es) = e ∷ marked force [] es
 marked force (s ∷ ss) (e ∷ es) = change force s ++ (e ∷ marked s ss es)
 
--- "it holds until the next 60": the supplier in force behind rows with these suppliers
+-- "it holds until the next 60": the supplier in force behind an entry of a kind, whose first number may name one
+abbrev pub forceBehind : Kind → ℕ → ℕ → ℕ
+forceBehind (Row k) force a = force
+forceBehind (Question k) force a = force
+forceBehind (Constraint k) force a = force
+forceBehind Supplier force a = a
+
+-- and behind rows with these suppliers
 unfoldable pub lastOf : ℕ → List ℕ → ℕ
 lastOf force [] = force
 lastOf force (s ∷ ss) = lastOf s ss

@@ -5,11 +5,14 @@ ghost use mathlib.Core.Path.{_≡_};
 ghost use Prim.Native.Nat.{_≤_};
 ghost use lib.ListN.{length};
 ghost use Rattle.entries.specs.Entries.{supplierSize};
-ghost use Rattle.table.specs.Suppliers.{supplying, change};
+ghost use Rattle.table.specs.Suppliers.{supplying, change, forceBehind};
 ghost use Rattle.table.specs.Contents.{written};
 
 // The supplier in force before any 60.
 pub const NONE: u8 = 0;
+
+// How many bytes a 60 has.
+pub const SIZE: usize = 2;
 
 // The 60 that names a supplier.
 pub fn supplying(s: u8) -> Entry
@@ -19,6 +22,19 @@ pub fn supplying(s: u8) -> Entry
         kind: Kind::Supplier,
         a: s,
         b: 0,
+    }
+}
+
+// The supplier in force behind an entry.
+pub fn behind(e: Entry, force: u8) -> u8
+    ensures { λ r. ⌜ r ≡ forceBehind (e .kind) force (e .a) ⌝ }
+{
+    let kind = e.kind;
+    match kind {
+        Kind::Row(_) => force,
+        Kind::Question(_) => force,
+        Kind::Constraint(_) => force,
+        Kind::Supplier => e.a,
     }
 }
 

@@ -11,7 +11,7 @@ use lib.Dec.{eqb}
 use Rattle.kinds.specs.declared.Kind.{Kind}
 use Rattle.kinds.specs.declared.Announced.{Announced}
 use Rattle.kinds.specs.declared.Announced.the-variants.{Listed, Unlisted}
-use Rattle.kinds.specs.Kinds.{formOf}
+use Rattle.kinds.specs.Kinds.{formOf, isRow, ofRow}
 use Rattle.kinds.specs.Words.{kindSpelled}
 use Rattle.entries.specs.declared.Entry.{Entry}
 use Rattle.entries.specs.declared.refusals.Refusal.{Refusal}
@@ -20,22 +20,56 @@ use Rattle.entries.specs.Said.{Said, answered, refusing, refusal, unless, whyOf
 use Rattle.entries.proofs.Numbers.{by-order}
 use Rattle.entries.proofs.Saying.{not-both}
 use Rattle.table.specs.declared.steps.Step.the-variants.{Took, Bad}
-use Rattle.table.specs.Steps.{entryOf, shownStep}
+use Rattle.kinds.proofs.Spelling.{word-some, no-word}
+use Rattle.table.specs.Steps.{entryOf, beginsRow, shownStep}
+use Rattle.table.specs.Contents.{written}
+use Rattle.table.proofs.Writing.{begins-own}
 use Rattle.table.proofs.Decoding.{took, turned-away}
 use Rattle.text.specs.declared.lines.Line.{Line}
 use Rattle.text.specs.Decimal.{value, tooLarge, wellSpelled}
 use Rattle.text.specs.Lines.{space, lineFeed}
 use Rattle.entries.specs.Lists.{some, every}
 use Rattle.text.specs.Texts.{Pieces, split, misspelling, lineBy, lineSays, onLine, lastSays, linesSay, endedBy}
-use Rattle.text.specs.Inner.{lineFrom, saidFrom}
+use Rattle.text.specs.Inner.{rowSpelled, lineFrom, saidFrom}
 use Rattle.text.proofs.Splitting.{behind-some}
-use Rattle.text.proofs.OneLine.{Plain, line-written}
+use Rattle.text.proofs.OneLine.{Plain, line-written, line-kind}
 use Rattle.text.proofs.Scanning.{more-behind, line-whole, line-last}
 
 -- at the end there is no line
 pub no-line : (text : List ℕ) (at n : ℕ) → length text ≤ at → saidFrom n (drop at text) ≡ answered []
 unfolding saidFrom split linesSay
 no-line text at n l = rw (drop-of-length-le text l)
+
+-- whether a row follows: nothing does at the end, and else the entry tells that the first line is read as
+pub no-row : rowSpelled [] ≡ false
+unfolding rowSpelled split
+no-row = ap ofRow (no-word [] (λ kind q. omega (arith, word-some kind, ap length q)))
+
+row-of-line : (s : List ℕ) (e : Entry) → lineSays (split lineFeed s .first) ≡ answered e → rowSpelled s ≡ isRow (e .kind)
+unfolding rowSpelled
+row-of-line s e q = ap ofRow (line-kind (split lineFeed s .first) e q)
+
+pub row-follows : (n : ℕ) (s : List ℕ) (es : List Entry) → saidFrom n s ≡ answered es → rowSpelled s ≡ beginsRow (written es)
+unfolding saidFrom linesSay onLine written rowSpelled split
+row-follows n s es q = go (split lineFeed s .first) (split lineFeed s .more) refl q
+  where
+    go : (line : List ℕ) (more : List (List ℕ)) → split lineFeed s .first ≡ line → linesSay n line more ≡ answered es →
+        rowSpelled s ≡ beginsRow (written es)
+    go [] [] p q = let none : [] ≡ es = cc in rw (← none, p) no-row
+    go (x ∷ line) [] p q = last (lineSays (x ∷ line)) q
+      where
+        last : (said : Said Entry) → onLine n (endedBy [] said) (answered []) ≡ answered es → rowSpelled s ≡ beginsRow (written es)
+        last (answered e) q = not-both (sym q)
+        last (refusing why) q = not-both (sym q)
+    go line (next ∷ more) p q = first (lineSays line) refl (linesSay (suc n) next more) q
+      where
+        first : (said : Said Entry) → lineSays line ≡ said → (rest : Said (List Entry)) → onLine n said rest ≡ answered es →
+            rowSpelled s ≡ beginsRow (written es)
+        first (answered e) l (answered fs) q =
+            let all : e ∷ fs ≡ es = cc in
+            rw (← all) (row-of-line s e (ap lineSays p ∙ l) ∙ sym (begins-own e (written fs)))
+        first (answered e) l (refusing why) q = not-both (sym q)
+        first (refusing why) l rest q = not-both (sym q)
 
 module _ (text : List ℕ) (at n : ℕ) (inside : at < length text) where
   abbrev lines : Pieces
@@ -67,6 +101,7 @@ module _ (text : List ℕ) (at n : ℕ) (inside : at < length text) where
     pub forth : at < here .next
     pub within : here .next ≤ length text
     pub plain : Plain e
+    pub row : rowSpelled (drop at text) ≡ isRow (e .kind)
 
   pub good-line : (e : Entry) → here .said ≡ Took e → Good e
   good-line e q =
@@ -79,6 +114,7 @@ module _ (text : List ℕ) (at n : ℕ) (inside : at < length text) where
         forth = omega (arith, next);
         within = omega (arith, next, l);
         plain = line-written (lines .first) e was .1;
+        row = row-of-line (drop at text) e was;
       })
       (λ l. absurd (never-took (lineSays (lines .first)) (sym (ap (λ (x : Line). x .said) (line-last text at end refl l)) ∙ q)))
     where

@@ -4,11 +4,14 @@ use mathlib.Core.Path.{_≡_, refl, sym, ap, _∙_}
 use mathlib.Core.List.{List, [], _∷_, _++_, append-assoc, append-nil}
 use Prim.Native.Nat.{ℕ, _+_, _≤_, _<_}
 use native.Mathlib.Omega.{arith}
-use native.Mathlib.Numerals.{add-one}
-use lib.ListN.{length, getD, take, drop, length-append, take-append-drop}
-use lib.Seq.{take-suc, take-length}
+use lib.ListN.{length, getD, drop, length-append}
 use Rattle.entries.specs.declared.Entry.{Entry}
 use Rattle.entries.specs.Entries.{blank}
+use Rattle.table.specs.declared.Table.{Table}
+use Rattle.table.specs.Suppliers.{noSupplier, supplying, change, marked}
+use Rattle.table.specs.Reading.{contentsIn, held}
+use Rattle.table.proofs.Marking.{unchanged, changed}
+use Rattle.table.proofs.Held.{numbered, allOwners, inForce, heldTo, held-more, held-all, held-front}
 use Rattle.text.specs.Lines.{lineOf, textOf}
 
 text-append : (es fs : List Entry) → textOf (es ++ fs) ≡ textOf es ++ textOf fs
@@ -16,21 +19,36 @@ unfolding textOf
 text-append [] fs = refl
 text-append (e ∷ es) fs = ap (λ (l : List ℕ). lineOf e ++ l) (text-append es fs) ∙ sym (append-assoc (lineOf e) (textOf es) (textOf fs))
 
--- the first lines, with one more; and none is longer than all
-module _ (es : List Entry) (i : ℕ) (here : i < length es) (e : Entry) (next : e ≡ getD es i blank) where
-  pub text-more : textOf (take (i + 1) es) ≡ textOf (take i es) ++ lineOf e
-  unfolding textOf
-  text-more =
-      ap textOf (ap (λ (k : ℕ). take k es) (add-one i) ∙ take-suc es i blank here) ∙ text-append (take i es) (getD es i blank ∷ [])
-      ∙ ap (λ (l : List ℕ). textOf (take i es) ++ l) (append-nil (lineOf (getD es i blank))) ∙ rw next
+-- a row's lines: its own, behind that of a supplier where that changes
+pub same-lines : (force s : ℕ) (e : Entry) → s ≡ force → textOf (change force s ++ (e ∷ [])) ≡ lineOf e
+unfolding textOf
+same-lines force s e q = rw (unchanged force s q) (append-nil (lineOf e))
 
-  pub size-more : length (textOf (take (i + 1) es)) ≡ length (textOf (take i es)) + length (lineOf e)
-  size-more = ap length text-more ∙ length-append (textOf (take i es)) (lineOf e)
+pub other-lines : (force s : ℕ) (e : Entry) → (s ≡ force → ⊥) → textOf (change force s ++ (e ∷ [])) ≡ lineOf (supplying s) ++ lineOf e
+unfolding textOf
+other-lines force s e h = rw (changed force s h) (ap (λ (l : List ℕ). lineOf (supplying s) ++ l) (append-nil (lineOf e)))
 
-pub text-within : (es : List Entry) (i : ℕ) → length (textOf (take i es)) ≤ length (textOf es)
-text-within es i =
-    let all : textOf es ≡ textOf (take i es) ++ textOf (drop i es) = ap textOf (sym (take-append-drop i es)) ∙ text-append (take i es) (drop i es) in
-    omega (arith, ap length all, length-append (textOf (take i es)) (textOf (drop i es)))
+-- the first lines, with one entry more; none is longer than all
+module _ (t : Table) where
+  abbrev count : ℕ
+  count = t .tally .constraints + t .tally .rows + t .tally .questions
 
-pub text-all : (es : List Entry) (i : ℕ) → i ≡ length es → textOf (take i es) ≡ textOf es
-text-all es i q = ap (λ (i : ℕ). textOf (take i es)) q ∙ ap textOf (take-length es)
+  abbrev pub textTo : ℕ → List ℕ
+  textTo i = textOf (heldTo t i)
+
+  module _ (i s force : ℕ) (e : Entry) (here : i < count) (in-force : force ≡ inForce t i) (owner : s ≡ getD (allOwners (contentsIn t)) i noSupplier)
+      (next : e ≡ getD (numbered (contentsIn t)) i blank) where
+    pub text-more : textTo (i + 1) ≡ textTo i ++ textOf (change force s ++ (e ∷ []))
+    text-more = rw in-force (ap textOf (held-more t i s e here owner next) ∙ text-append (heldTo t i) (change (inForce t i) s ++ (e ∷ [])))
+
+    pub size-more : length (textTo (i + 1)) ≡ length (textTo i) + length (textOf (change force s ++ (e ∷ [])))
+    size-more = ap length text-more ∙ length-append (textTo i) (textOf (change force s ++ (e ∷ [])))
+
+  pub text-within : (i : ℕ) → i ≤ count → length (textTo i) ≤ length (textOf (held t))
+  text-within i h =
+      let rest = marked (inForce t i) (drop i (allOwners (contentsIn t))) (drop i (numbered (contentsIn t))) in
+      let all : textOf (held t) ≡ textTo i ++ textOf rest = ap textOf (held-front t i h) ∙ text-append (heldTo t i) rest in
+      omega (arith, ap length all, length-append (textTo i) (textOf rest))
+
+  pub text-all : (i : ℕ) → i ≡ count → textTo i ≡ textOf (held t)
+  text-all i q = ap textOf (held-all t i q)

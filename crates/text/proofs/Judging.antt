@@ -1,6 +1,7 @@
 -- The entries that a text spells, judged one after the other: reading their bytes takes each that may stand there, and stops at the first that may not.
 -- Assumes nothing.
 use mathlib.Core.Path.{_≡_, refl, sym, ap, _∙_}
+use mathlib.Core.Bool.{Bool, false}
 use mathlib.Core.List.{List, [], _∷_, _++_, append-assoc, append-nil}
 use Prim.Native.Nat.{ℕ, suc, _+_, _-_, _≤_, _<_}
 use native.Mathlib.Omega.{arith}
@@ -10,11 +11,12 @@ use Rattle.entries.specs.declared.Entry.{Entry}
 use Rattle.entries.specs.declared.refusals.Refusal.{Refusal}
 use Rattle.entries.specs.Said.{Said, answered, refusing, refusal}
 use Rattle.entries.specs.Entries.{sizeOf, bytesOf}
-use Rattle.table.specs.Steps.{permitted}
+use Rattle.kinds.specs.Kinds.{isRow}
+use Rattle.table.specs.Steps.{beginsRow, placed, permitted}
 use Rattle.table.specs.Contents.{Contents, tallyOf, withEntry, entries, written, encoded}
 use Rattle.table.specs.Reading.{after, readOn, reading}
-use Rattle.table.proofs.Permission.{allowed-if}
-use Rattle.table.proofs.Writing.{Whole, own-judged, written-more, with-whole, with-entries, read-past, whole-accepted}
+use Rattle.table.proofs.Permission.{Allowed, allowed-if}
+use Rattle.table.proofs.Writing.{Whole, own-judged, Open, begins-own, calm, settled-same, next-open, next-entries, next-bytes, read-open, whole-accepted}
 use Rattle.text.specs.Calls.{lineAt}
 use Rattle.text.proofs.OneLine.{Plain}
 
@@ -27,35 +29,43 @@ pub plainly-append : (es fs : List Entry) → Plainly es → Plainly fs → Plai
 plainly-append [] fs p q = q
 plainly-append (e ∷ es) fs p q = (p .0, plainly-append es fs (p .1) q)
 
--- an entry behind a whole table
-module _ (c : Contents) (w : Whole c) (e : Entry) (plain : Plain e) where
-  -- one that may stand there: the table with it is whole, and has it behind the others
-  pub in-whole : (f : Entry) → permitted e (tallyOf c) ≡ answered f → Whole (withEntry c e)
-  in-whole f q = with-whole c w e (plain .tidy) (allowed-if e f (tallyOf c) q .1) (e .kind) refl
+-- an entry behind the contents that came before it, by whether a row follows
+module _ (c : Contents) (e : Entry) (plain : Plain e) (follows : Bool) (o : Open c (isRow (e .kind))) where
+  abbrev judged : Said Entry
+  judged = permitted e (placed e (c .supplier) follows) (tallyOf c)
 
-  pub in-entries : (f : Entry) → permitted e (tallyOf c) ≡ answered f → entries (withEntry c e) ≡ entries c ++ (e ∷ [])
-  in-entries f q = with-entries c w e (plain .tidy) (allowed-if e f (tallyOf c) q .1) (e .kind) refl
+  allowed : (f : Entry) → judged ≡ answered f → Allowed (placed e (c .supplier) follows) (tallyOf c) e
+  allowed f q = allowed-if e f (placed e (c .supplier) follows) (tallyOf c) q .1
 
-  pub in-bytes : (f : Entry) → permitted e (tallyOf c) ≡ answered f → encoded (withEntry c e) ≡ encoded c ++ bytesOf e
-  in-bytes f q = ap written (in-entries f q) ∙ written-more (entries c) e
+  -- one that may stand there: the contents with it keep the rules, and have it behind the others
+  pub in-open : (f : Entry) → judged ≡ answered f → Open (withEntry c e) follows
+  in-open f q = next-open c e (plain .tidy) follows o (allowed f q)
 
-  -- one that may not: reading stops at it, whatever follows
-  pub out-reading : (s : List ℕ) (why : Refusal) → permitted e (tallyOf c) ≡ refusing why →
+  pub in-entries : (f : Entry) → judged ≡ answered f → entries (withEntry c e) ≡ entries c ++ (e ∷ [])
+  in-entries f q = next-entries c e (plain .tidy) follows o (allowed f q)
+
+  pub in-bytes : (f : Entry) → judged ≡ answered f → encoded (withEntry c e) ≡ encoded c ++ bytesOf e
+  in-bytes f q = next-bytes c e (plain .tidy) follows o (allowed f q)
+
+  -- one that may not: reading stops at it
+  pub out-reading : (s : List ℕ) (why : Refusal) → follows ≡ beginsRow s → judged ≡ refusing why →
       reading (encoded c ++ (bytesOf e ++ s)) ≡ refusing (refusal (why .number) (length (encoded c) + why .place))
   unfolding readOn after bytesOf
-  out-reading s why q = read-past c (bytesOf e ++ s) w ∙ rw (own-judged e s (tallyOf c) (plain .tidy), q)
+  out-reading s why p q =
+      let here : Open c (beginsRow (bytesOf e ++ s)) = rw (begins-own e s) o in
+      read-open c (bytesOf e ++ s) here ∙ rw (own-judged e s (c .supplier) (tallyOf c) (plain .tidy), ← p, q)
 
--- how reading the bytes of entries behind a whole table ends: with all of them, or at the first that may not stand there
+-- how reading the bytes of entries behind such contents ends: with all of them, or at the first that may not stand there
 pub record FirstBad (c : Contents) (es : List Entry) (why : Refusal) : Type 0 where
   pub front : List Entry
   pub bad : Entry
   pub rest : List Entry
   pub parts : es ≡ front ++ (bad ∷ rest)
   pub before : Contents
-  pub whole : Whole before
+  pub stands : Open before (isRow (bad .kind))
   pub taken : entries before ≡ entries c ++ front
   pub here : Refusal
-  pub refuses : permitted bad (tallyOf before) ≡ refusing here
+  pub refuses : permitted bad (placed bad (before .supplier) (beginsRow (written rest))) (tallyOf before) ≡ refusing here
   pub is : why ≡ refusal (here .number) (length (encoded before) + here .place)
 
 abbrev pub Ends : Contents → List Entry → Said Contents → Type 0
@@ -71,32 +81,39 @@ ends-more c d e es q (refusing why) h = record {
   rest = h .rest;
   parts = ap (λ (l : List Entry). e ∷ l) (h .parts);
   before = h .before;
-  whole = h .whole;
+  stands = h .stands;
   taken = h .taken ∙ ap (λ (l : List Entry). l ++ h .front) q ∙ append-assoc (entries c) (e ∷ []) (h .front);
   here = h .here;
   refuses = h .refuses;
   is = h .is;
 }
 
-pub ends : (es : List Entry) (c : Contents) → Whole c → Plainly es → Ends c es (reading (encoded c ++ written es))
+pub ends : (es : List Entry) (c : Contents) → Open c (beginsRow (written es)) → Plainly es → Ends c es (reading (encoded c ++ written es))
 unfolding written
-ends [] c w p = rw (append-nil (encoded c), whole-accepted c w) (sym (append-nil (entries c)))
-ends (e ∷ es) c w p = go (permitted e (tallyOf c)) refl (λ d v. ends es d v (p .1))
+ends [] c o p =
+    let w : Whole c = rw (settled-same c (calm c false (o .awaits) refl)) at (o .whole) in
+    rw (append-nil (encoded c), whole-accepted c w) (sym (append-nil (entries c)))
+ends (e ∷ es) c o p =
+    go (permitted e (placed e (c .supplier) (beginsRow (written es))) (tallyOf c)) refl (λ d v. ends es d v (p .1))
   where
-    go : (x : Said Entry) → permitted e (tallyOf c) ≡ x → ((d : Contents) → Whole d → Ends d es (reading (encoded d ++ written es))) →
+    here : Open c (isRow (e .kind))
+    here = rw (begins-own e (written es)) at o
+
+    go : (x : Said Entry) → permitted e (placed e (c .supplier) (beginsRow (written es))) (tallyOf c) ≡ x →
+        ((d : Contents) → Open d (beginsRow (written es)) → Ends d es (reading (encoded d ++ written es))) →
         Ends c (e ∷ es) (reading (encoded c ++ (bytesOf e ++ written es)))
     go (answered f) q on =
         let same : encoded (withEntry c e) ++ written es ≡ encoded c ++ (bytesOf e ++ written es) =
-        ap (λ (l : List ℕ). l ++ written es) (in-bytes c w e (p .0) f q) ∙ append-assoc (encoded c) (bytesOf e) (written es) in
-        ends-more c (withEntry c e) e es (in-entries c w e (p .0) f q) (reading (encoded c ++ (bytesOf e ++ written es)))
-        (rw same at (on (withEntry c e) (in-whole c w e (p .0) f q)))
-    go (refusing why) q on = rw (out-reading c w e (p .0) (written es) why q) (record {
+        ap (λ (l : List ℕ). l ++ written es) (in-bytes c e (p .0) _ here f q) ∙ append-assoc (encoded c) (bytesOf e) (written es) in
+        ends-more c (withEntry c e) e es (in-entries c e (p .0) _ here f q) (reading (encoded c ++ (bytesOf e ++ written es)))
+        (rw same at (on (withEntry c e) (in-open c e (p .0) _ here f q)))
+    go (refusing why) q on = rw (out-reading c e (p .0) _ here (written es) why refl q) (record {
       front = [];
       bad = e;
       rest = es;
       parts = refl;
       before = c;
-      whole = w;
+      stands = here;
       taken = sym (append-nil (entries c));
       here = why;
       refuses = q;

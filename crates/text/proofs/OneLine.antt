@@ -202,6 +202,19 @@ line-written l e q = go (kindSpelled (split space l .first)) refl q
         (word-of-kind (split space l .first) kind k) (sym (read-pieces kind ps h)) in
         rw (← one) (body, read-plain kind ps h)
 
+-- and its word is that of the entry's kind
+pub line-kind : (l : List ℕ) (e : Entry) → lineSays l ≡ answered e → kindSpelled (split space l .first) ≡ Listed (e .kind)
+unfolding lineSays
+line-kind l e q = go (kindSpelled (split space l .first)) q
+  where
+    go : (a : Announced) → lineBy a (split space l .more) ≡ answered e → a ≡ Listed (e .kind)
+    go Unlisted q = not-both (sym q)
+    go (Listed kind) q =
+        let ps = split space l .more in
+        let said = unless-answered (misspelling kind ps) (answered (entryOf kind (map value ps))) e q in
+        let one : entryOf kind (map value ps) ≡ e = cc (said .1) in
+        ap (λ (e : Entry). Listed (e .kind)) one
+
 -- an entry's numbers with a space before each, by how many there are
 abbrev pub numbersText : Entry → List ℕ
 numbersText e = each space (map decimal (numbersIn e))

@@ -1,17 +1,17 @@
 -- A table and its text: the text of entries is read as these entries, a text that is read is theirs, and a bad line speaks for itself.
 -- Assumes nothing.
 use mathlib.Core.Path.{_≡_, refl, sym, ap, ap₂, _∙_}
-use mathlib.Core.Bool.{Bool, true, cond}
-use mathlib.Core.List.{List, [], _∷_, _++_}
+use mathlib.Core.Bool.{Bool, true, false, cond}
+use mathlib.Core.List.{List, [], _∷_, _++_, append-nil}
 use Prim.Native.Nat.{ℕ, suc, _+_, _≤_, _<_}
 use native.Mathlib.Omega.{arith}
 use lib.ListN.{length}
-use lib.Dec.{ltb}
+use lib.Dec.{ltb, eqb}
 use borrow.Author.Tests.{le-ltb}
 use Rattle.belnap.proofs.Finite.{both-parts}
 use Rattle.kinds.specs.declared.Kind.{Kind}
 use Rattle.kinds.specs.declared.Names.{Names}
-use Rattle.kinds.specs.declared.Names.the-variants.{Nothing, Predicates, Rows, Questions}
+use Rattle.kinds.specs.declared.Names.the-variants.{Nothing, Predicates, Rows, Questions, Suppliers}
 use Rattle.kinds.specs.Kinds.{isRow, isQuestion, isConstraint}
 use Rattle.entries.specs.declared.Entry.{Entry}
 use Rattle.entries.specs.Said.{Said, answered, refusing}
@@ -20,9 +20,11 @@ use Rattle.entries.proofs.Numbers.{by-order}
 use Rattle.entries.proofs.Saying.{not-both}
 use Rattle.table.specs.declared.steps.Tally.{Tally}
 use Rattle.table.specs.Steps.{tally, limit, namedAt, fits}
-use Rattle.table.specs.Contents.{Contents, entries}
-use Rattle.table.specs.Whole.{Sound, Each, Whole}
+use Rattle.table.specs.Suppliers.{noSupplier, supplying, change, marked}
+use Rattle.table.specs.Contents.{Contents, lastSupplier, entries}
+use Rattle.table.specs.Whole.{Sound, Each, Whole, SupplierAt}
 use Rattle.table.proofs.Permission.{fits-below}
+use Rattle.table.proofs.Marking.{unchanged}
 use Rattle.text.specs.Lines.{lineFeed, each, textOf}
 use Rattle.text.specs.Texts.{Pieces, split, lineSays, onLine, linesSay, spelled, endedBy}
 use Rattle.text.specs.Inner.{saidFrom}
@@ -79,6 +81,7 @@ limit-low Nothing before r q = omega arith
 limit-low Predicates before r q = omega arith
 limit-low Rows before r q = r
 limit-low Questions before r q = q
+limit-low Suppliers before r q = omega arith
 
 number-low : (n below i x y : ℕ) → below ≤ numberLimit → namedAt n below i x ≡ true → x ≡ cond (ltb i n) y 0 → x < numberLimit
 number-low n below i x y h f t =
@@ -108,6 +111,23 @@ each-plain part before i (e ∷ es) low h =
       each-plain part before (suc i) es (λ j l. low j (omega arith)) (h .1),
     )
 
+supplier-plain : (s : ℕ) → s < numberLimit → Plain (supplying s)
+supplier-plain s h = record { tidy = record { first = refl; second = refl }; first = h; second = omega arith }
+
+change-plain : (force s : ℕ) → s < numberLimit → Plainly (change force s)
+change-plain force s h = go (eqb s force)
+  where
+    go : (same : Bool) → Plainly (cond same [] (supplying s ∷ []))
+    go true = tt
+    go false = (supplier-plain s h, tt)
+
+marked-plain : (i force : ℕ) (ss : List ℕ) (es : List Entry) → Each SupplierAt i ss → Plainly es → Plainly (marked force ss es)
+unfolding marked
+marked-plain i force ss [] h p = tt
+marked-plain i force [] (e ∷ es) h p = (p .0, marked-plain i force [] es h (p .1))
+marked-plain i force (s ∷ ss) (e ∷ es) h p =
+    plainly-append (change force s) (e ∷ marked s ss es) (change-plain force s (h .0)) (p .0, marked-plain (suc i) s ss es (h .1) (p .1))
+
 pub whole-plain : (c : Contents) → Whole c → Plainly (entries c)
 whole-plain c w =
     let n = length (c .constraints) in
@@ -115,4 +135,7 @@ whole-plain c w =
     let rows = each-plain isRow (λ i. tally n i 0) 0 (c .rows) (λ j l. (omega (arith, w .rows-fit), omega arith)) (w .rows-sound) in
     let questions =
     each-plain isQuestion (λ j. tally n (length (c .rows)) j) 0 (c .questions) (λ j l. (w .rows-fit, omega (arith, w .questions-fit))) (w .questions-sound) in
-    plainly-append (c .constraints) (c .rows ++ c .questions) constraints (plainly-append (c .rows) (c .questions) rows questions)
+    let none : change (lastSupplier c) (c .supplier) ≡ [] = unchanged (lastSupplier c) (c .supplier) (w .settles) in
+    let all = marked noSupplier (c .suppliers) (c .rows) in
+    rw (none, append-nil all) (plainly-append (c .constraints) (all ++ c .questions) constraints
+    (plainly-append all (c .questions) (marked-plain 0 noSupplier (c .suppliers) (c .rows) (w .suppliers-sound) rows) questions))

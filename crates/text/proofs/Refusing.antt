@@ -15,10 +15,12 @@ use Rattle.entries.specs.Said.{Said, answered, refusing, refusal, andThen, whyO
 use Rattle.entries.proofs.Saying.{not-both}
 use Rattle.entries.specs.Entries.{sizeOf}
 use Rattle.entries.proofs.OneEntry.{size}
-use Rattle.table.specs.Contents.{Contents, none, tallyOf, written, encoded}
+use Rattle.table.specs.Steps.{beginsRow}
+use Rattle.table.specs.Suppliers.{marked, lastOf}
+use Rattle.table.specs.Contents.{Contents, none, tallyOf, settled, written, encoded}
 use Rattle.table.specs.Reading.{reading}
 use Rattle.table.proofs.Permission.{permitted-own, refused-inside}
-use Rattle.table.proofs.Writing.{none-whole, whole-accepted}
+use Rattle.table.proofs.Writing.{none-whole, whole-open, whole-accepted}
 use Rattle.table.proofs.Speaking.{refused-at, not-zero}
 use Rattle.text.specs.Lines.{lineFeed, each, lineOf, textOf}
 use Rattle.entries.specs.Lists.{every}
@@ -162,18 +164,18 @@ bad-text text why q =
       number-is = b .number-is;
     }
 
--- a bad entry: those before it are an accepted table
+-- a bad entry: those before it are an accepted table, or one and a 60 that waits
 pub bad-entry : (text : List ℕ) (why : Refusal) → Own text why → BadEntry text (why .number) (why .place)
-unfolding written
+unfolding written marked lastOf
 bad-entry text why own =
     let es = own .entries in
     let plain = text-written text es (own .spells) .1 in
-    let b : FirstBad none es (refusal (why .number) (own .at)) = rw (own .refuses) at (ends es none none-whole plain) in
+    let b : FirstBad none es (refusal (why .number) (own .at)) = rw (own .refuses) at (ends es none (whole-open none (beginsRow (written es)) none-whole) plain) in
     let number : b .here .number ≡ why .number = sym (ap (λ (r : Refusal). r .number) (b .is)) in
     let front : written (b .front) ≡ encoded (b .before) = ap written (sym (b .taken)) in
     let at : own .at ≡ length (written (b .front)) + b .here .place = ap (λ (r : Refusal). r .place) (b .is) ∙ ap (λ
     (l : List ℕ). length l + b .here .place) (sym front) in
-    let inside : b .here .place < sizeOf (b .bad) = omega (arith, refused-inside (b .bad) (tallyOf (b .before)) (b .here) (b .refuses), size (b .bad)) in
+    let inside : b .here .place < sizeOf (b .bad) = omega (arith, refused-inside (b .bad) _ (tallyOf (b .before)) (b .here) (b .refuses), size (b .bad)) in
     let same : refusal (b .here .number) (b .here .place) ≡ refusal (why .number) (b .here .place) = ap (λ (n : ℕ). refusal n
     (b .here .place)) number in record {
       front = b .front;
@@ -182,9 +184,10 @@ bad-entry text why own =
       spells = own .spells ∙ ap answered (b .parts);
       line-is = own .line ∙ ap (lineAt es) at ∙ ap (λ (es : List Entry). lineAt es (length (written (b .front)) + b .here .place)) (b .parts)
           ∙ line-of-place (b .front) (b .bad) (b .rest) (b .here .place) inside;
-      among = rw number at (permitted-own (b .bad) (tallyOf (b .before)) (b .here) (b .refuses));
+      among = rw number at (permitted-own (b .bad) _ (tallyOf (b .before)) (b .here) (b .refuses));
       before = b .before;
-      accepted = ap reading front ∙ whole-accepted (b .before) (b .whole);
+      stands = sym (b .taken);
+      reached = record { accepted = whole-accepted (settled (b .before)) (b .stands .whole); awaits = b .stands .awaits };
       place = b .here .place;
       brings = b .refuses ∙ ap refusing same;
       refuses = ap (λ (es : List Entry). reading (written es)) (sym (b .parts)) ∙ own .refuses ∙ ap (λ (p : ℕ). refusing (refusal (why .number) p)) at;

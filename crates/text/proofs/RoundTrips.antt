@@ -7,9 +7,11 @@ use Prim.Native.Nat.{ℕ}
 use Rattle.entries.specs.declared.Entry.{Entry}
 use Rattle.entries.specs.Said.{Said, answered, refusing, andThen}
 use Rattle.entries.proofs.Saying.{not-both}
+use Rattle.table.specs.Steps.{beginsRow}
+use Rattle.table.specs.Suppliers.{marked, lastOf}
 use Rattle.table.specs.Contents.{Contents, none, entries, written}
 use Rattle.table.specs.Reading.{reading}
-use Rattle.table.proofs.Writing.{of-accepted, none-whole}
+use Rattle.table.proofs.Writing.{of-accepted, none-whole, whole-open}
 use Rattle.text.specs.Lines.{textOf}
 use Rattle.text.specs.Texts.{spelled}
 use Rattle.text.specs.Calls.{toText, byLine, fromText}
@@ -63,11 +65,11 @@ text-read-back s text q =
 
 -- "a text that reads at all is the one the writer gives"
 pub text-written-back : (text s : List ℕ) → fromText text ≡ answered s → toText s ≡ answered text
-unfolding toText written
+unfolding toText written marked lastOf
 text-written-back text s q =
     let r = read text s q in
     let w = text-written text (r .all) (r .spells) in
-    let same : entries (r .table) ≡ r .all = rw (r .reads) at (ends (r .all) none none-whole (w .1)) in
+    let same : entries (r .table) ≡ r .all = rw (r .reads) at (ends (r .all) none (whole-open none (beginsRow (written (r .all))) none-whole) (w .1)) in
     rw (← r .is, r .reads) (ap answered (ap textOf same ∙ sym (w .0)))
 
 -- "Every accepted table has exactly one text": it has one, and two texts that are read as one table are the same

@@ -1,5 +1,5 @@
 -- What the promises of the parts mean: a piece as a number, the pieces behind a place, a line by itself, and what the lines from a place on spell.
-use Prim.Native.Nat.{ℕ, _+_, _*_, _≤_}
+use Prim.Native.Nat.{ℕ, _+_, _≤_}
 use mathlib.Core.Path.{_≡_}
 use mathlib.Core.Bool.{Bool, true, false, cond}
 use mathlib.Core.List.{List, [], _∷_}
@@ -8,13 +8,15 @@ use lib.Dec.{eqb}
 use Rattle.entries.specs.declared.Entry.{Entry}
 use Rattle.entries.specs.declared.refusals.Refusal.{Refusal}
 use Rattle.entries.specs.Said.{Said, answered, whyOf}
-use Rattle.entries.specs.Entries.{sizeLimit}
-use Rattle.table.specs.Steps.{rowLimit, questionLimit, constraintLimit, shownStep}
+use Rattle.entries.specs.Entries.{supplierSize}
+use Rattle.table.specs.Steps.{byteLimit, shownStep}
 use Rattle.text.specs.declared.decimal.Number.{Number}
 use Rattle.text.specs.declared.lines.Line.{Line}
 use Rattle.text.specs.declared.Gathered.{Gathered}
 use Rattle.text.specs.Decimal.{value, tooLarge, wellSpelled}
-use Rattle.text.specs.Lines.{lineFeed}
+use Rattle.kinds.specs.Kinds.{ofRow}
+use Rattle.kinds.specs.Words.{kindSpelled}
+use Rattle.text.specs.Lines.{space, lineFeed}
 use Rattle.text.specs.Texts.{Pieces, split, lineSays, endedBy, linesSay}
 
 -- a piece as a number
@@ -38,6 +40,10 @@ after (next ∷ more) end = end + 1
 unfoldable pub lineFrom : ℕ → Pieces → Line
 lineFrom at lines = record { said = shownStep (endedBy (lines .more) (lineSays (lines .first))); next = after (lines .more) (at + length (lines .first)) }
 
+-- whether what is left of a text begins with a row's word
+unfoldable pub rowSpelled : List ℕ → Bool
+rowSpelled s = ofRow (kindSpelled (split space (split lineFeed s .first) .first))
+
 -- what the lines from line n on say, of what is left of a text
 unfoldable pub saidFrom : ℕ → List ℕ → Said (List Entry)
 saidFrom n s = let lines = split lineFeed s in linesSay n (lines .first) (lines .more)
@@ -50,14 +56,14 @@ badFrom n s = whyOf (saidFrom n s)
 abbrev pub ownUnless : Refusal → Refusal → Refusal
 ownUnless own bad = cond (eqb (bad .number) 0) own bad
 
--- no table has more bytes
-abbrev pub byteLimit : ℕ
-byteLimit = sizeLimit * (constraintLimit + (rowLimit + questionLimit))
+-- no table has more bytes, with a 60 that waits for its row
+abbrev pub gatherLimit : ℕ
+gatherLimit = byteLimit + supplierSize
 
 -- the count of bytes gathered fits their array
 pub record Holds (g : Gathered) : Type 0 where
-  pub fits : g .length ≤ byteLimit
-  pub there : byteLimit ≤ length (g .bytes)
+  pub fits : g .length ≤ gatherLimit
+  pub there : gatherLimit ≤ length (g .bytes)
 
 -- the bytes of a table, gathered, or the refusal
 pub record Gathers (x : Said (List ℕ)) (g : Gathered) : Type 0 where

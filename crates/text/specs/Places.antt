@@ -9,8 +9,10 @@ use Rattle.entries.specs.declared.Entry.{Entry}
 use Rattle.entries.specs.declared.refusals.Refusal.{Refusal}
 use Rattle.entries.specs.Refusals.{outputTooShort, ofEntries, ofSpelling, isAmong}
 use Rattle.entries.specs.Said.{answered, refusing, refusal}
-use Rattle.table.specs.Steps.{permitted}
-use Rattle.table.specs.Contents.{Contents, tallyOf, written}
+use Rattle.kinds.specs.Kinds.{isRow}
+use Rattle.table.specs.Steps.{beginsRow, placed, permitted}
+use Rattle.table.specs.Contents.{Contents, tallyOf, entries, written}
+use Rattle.table.specs.Places.{Reached}
 use Rattle.table.specs.Reading.{reading}
 use Rattle.text.specs.Lines.{lineFeed, textOf}
 use Rattle.text.specs.Texts.{split, lineSays, spelled, endedBy}
@@ -28,8 +30,8 @@ pub record BadLine (text : List ℕ) (number line : ℕ) : Type 0 where
   pub says : endedBy (split lineFeed rest .more) (lineSays (split lineFeed rest .first)) ≡ refusing here
   pub number-is : number ≡ here .number
 
--- 01's own for the bytes, "of which 1 and 2 cannot occur": every line is spelled well, the entries before the line's are an accepted table, behind which the
--- line's may not stand; and reading the bytes of all refuses them with that number, at that entry
+-- 01's own for the bytes, "of which 1 and 2 cannot occur": every line is spelled well, the entries before the line's are an accepted table, or one and a 60
+-- that waits for the line's, behind which the line's may not stand; and reading the bytes of all refuses them with that number, at that entry
 pub record BadEntry (text : List ℕ) (number line : ℕ) : Type 0 where
   pub front : List Entry
   pub bad : Entry
@@ -38,9 +40,10 @@ pub record BadEntry (text : List ℕ) (number line : ℕ) : Type 0 where
   pub among : isAmong ofEntries number ≡ true
   pub line-is : line ≡ suc (length front)
   pub before : Contents
-  pub accepted : reading (written front) ≡ answered before
+  pub stands : front ≡ entries before
+  pub reached : Reached before (isRow (bad .kind))
   pub place : ℕ
-  pub brings : permitted bad (tallyOf before) ≡ refusing (refusal number place)
+  pub brings : permitted bad (placed bad (before .supplier) (beginsRow (written rest))) (tallyOf before) ≡ refusing (refusal number place)
   pub refuses : reading (written (front ++ (bad ∷ rest))) ≡ refusing (refusal number (length (written front) + place))
 
 -- "last 11 at place 0"

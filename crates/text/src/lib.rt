@@ -2,25 +2,29 @@
 pub mod decimal;
 pub mod lines;
 
+use entries::Entry;
 use entries::refusals;
 use entries::refusals::Output;
 use entries::refusals::Refusal;
+use kinds::Kind;
 use table::Outcome;
 use table::Table;
 use table::steps;
 use table::steps::Entered;
 use table::steps::Step;
 use table::steps::Tally;
+use table::suppliers;
 ghost use mathlib.Core.Path.{_≡_};
 ghost use mathlib.Core.List.{_++_};
 ghost use Prim.Native.Nat.{_+_, _≤_};
 ghost use lib.ListN.{length, drop, take};
 ghost use Rattle.entries.specs.Said.{refusing, refusal};
 ghost use Rattle.entries.specs.Output.{sent, shownOutput, outputOf};
+ghost use Rattle.table.specs.Steps.{placed};
 ghost use Rattle.table.specs.Reading.{Fits, held};
 ghost use Rattle.text.specs.Lines.{textOf};
 ghost use Rattle.text.specs.Calls.{toText, fromText};
-ghost use Rattle.text.specs.Inner.{badFrom, ownUnless, Holds, Gathers};
+ghost use Rattle.text.specs.Inner.{rowSpelled, badFrom, ownUnless, Holds, Gathers};
 
 // How many bytes a table's text has.
 fn text_size(t: Table) -> usize
@@ -31,16 +35,20 @@ fn text_size(t: Table) -> usize
     let ruled = bound + t.tally.rows;
     let count = ruled + t.tally.questions;
     let mut size = 0;
+    let mut force = suppliers::NONE;
     let mut i = 0;
     while i < count {
+        let mut s = force;
         let e = if i < bound {
             t.constraints[i]
         } else if i < ruled {
+            s = t.suppliers[i - bound];
             t.rows[i - bound]
         } else {
             t.questions[i - ruled]
         };
-        size += lines::line_size(e);
+        size += lines::lines_size(force, s, e);
+        force = s;
         i += 1;
     }
     size
@@ -56,16 +64,20 @@ fn write(t: Table, out: &mut [u8]) -> usize
     let ruled = bound + t.tally.rows;
     let count = ruled + t.tally.questions;
     let mut at = 0;
+    let mut force = suppliers::NONE;
     let mut i = 0;
     while i < count {
+        let mut s = force;
         let e = if i < bound {
             t.constraints[i]
         } else if i < ruled {
+            s = t.suppliers[i - bound];
             t.rows[i - bound]
         } else {
             t.questions[i - ruled]
         };
-        at = lines::put_line(out, at, e);
+        at = lines::put_lines(out, at, force, s, e);
+        force = s;
         i += 1;
     }
     at
@@ -89,8 +101,9 @@ pub fn to_text(table: &[u8], out: &mut [u8]) -> Output
     Output::Written(write(t, out))
 }
 
-// No table has more bytes.
-const BYTES: usize = entries::LONGEST * (Table::CONSTRAINTS + (Table::ROWS + Table::QUESTIONS));
+// No table has more bytes, with a supplier that waits for its row.
+const BYTES: usize = entries::LONGEST
+    * (Table::CONSTRAINTS + (Table::ROWS + Table::QUESTIONS)) + suppliers::SIZE * (Table::ROWS + 1);
 
 // The bytes of the table that a text spells, and how many they are; or the refusal, whose number is 0 where there is none.
 pub struct Gathered {
@@ -151,6 +164,20 @@ fn refused(why: Refusal) -> Gathered
     }
 }
 
+// Whether an entry behind a supplier in force is no idle supplier; the next line would begin at a place.
+fn placed_line(e: Entry, force: u8, text: &[u8], next: usize) -> bool
+    requires { ⌜ next ≤ length (now text) ⌝ }
+    ensures { λ r. ⌜ r ≡ placed e force (rowSpelled (drop next (now (text .entry)))) ⌝ }
+{
+    let kind = e.kind;
+    match kind {
+        Kind::Row(_) => true,
+        Kind::Question(_) => true,
+        Kind::Constraint(_) => true,
+        Kind::Supplier => (e.a != force) & lines::row_line(text, next),
+    }
+}
+
 // The bytes of the entries that a text spells, one after the other; an entry that may not stand where it does waits for a misspelt line behind it.
 fn gather(text: &[u8]) -> Gathered
     ensures { λ r. ⌜ Gathers (fromText (now (text .entry))) r ⌝ }
@@ -162,6 +189,7 @@ fn gather(text: &[u8]) -> Gathered
         rows: 0,
         questions: 0,
     };
+    let mut force = suppliers::NONE;
     let mut line = 1;
     let mut at = 0;
     while at < text.len() {
@@ -170,10 +198,12 @@ fn gather(text: &[u8]) -> Gathered
         let next = found.next;
         match said {
             Step::Took(e) => {
-                let entered = steps::enter(e, tally);
+                let good = placed_line(e, force, text, next);
+                let entered = steps::enter(e, good, tally);
                 match entered {
                     Entered::In(more) => {
                         tally = more;
+                        force = suppliers::behind(e, force);
                         length = length + entries::put(&mut bytes[length..], e);
                     }
                     Entered::Out(why) => {

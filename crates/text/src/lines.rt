@@ -7,20 +7,23 @@ use kinds::Announced;
 use kinds::Kind;
 use kinds::words;
 use table::steps::Step;
+use table::suppliers;
 ghost use mathlib.Core.Path.{_≡_};
 ghost use mathlib.Core.Bool.{cond};
-ghost use mathlib.Core.List.{_∷_, [], map};
+ghost use mathlib.Core.List.{_∷_, [], _++_, map};
 ghost use Prim.Native.Nat.{_+_, _≤_, _<_};
 ghost use lib.ListN.{length, take, drop};
 ghost use lib.Seq.{sets};
-ghost use Rattle.kinds.specs.Words.{wordOf};
+ghost use Rattle.kinds.specs.Kinds.{ofRow};
+ghost use Rattle.kinds.specs.Words.{wordOf, kindSpelled};
 ghost use Rattle.entries.specs.Said.{refusal};
 ghost use Rattle.table.specs.Steps.{shownStep};
+ghost use Rattle.table.specs.Suppliers.{change};
 ghost use Rattle.text.specs.Decimal.{decimal};
 ghost use Rattle.entries.specs.Entries.{numbersIn};
-ghost use Rattle.text.specs.Lines.{each, lineOf, space, lineFeed};
+ghost use Rattle.text.specs.Lines.{each, lineOf, textOf, space, lineFeed};
 ghost use Rattle.text.specs.Texts.{split, lineBy, lineSays};
-ghost use Rattle.text.specs.Inner.{piecesBehind, lineFrom};
+ghost use Rattle.text.specs.Inner.{piecesBehind, rowSpelled, lineFrom};
 
 const SPACE: u8 = b' ';
 
@@ -69,7 +72,7 @@ fn put_numbers(out: &mut [u8], at: usize, e: Entry) -> usize
 }
 
 // An entry's line from a place of an output on.
-pub(crate) fn put_line(out: &mut [u8], at: usize, e: Entry) -> usize
+fn put_line(out: &mut [u8], at: usize, e: Entry) -> usize
     requires { ⌜ at + length (lineOf e) ≤ length (now out) ⌝ }
     ensures { λ r. ⌜ (r ≡ at + length (lineOf e)) × (now (out .exit) ≡ sets (now (out .entry)) at (lineOf e)) ⌝ }
 {
@@ -77,6 +80,19 @@ pub(crate) fn put_line(out: &mut [u8], at: usize, e: Entry) -> usize
     let word = put_word(out, at, kind);
     let numbers = put_numbers(out, word, e);
     decimal::put_byte(out, numbers, LINE_FEED)
+}
+
+// An entry's line, behind that of its supplier where the one in force is another.
+pub(crate) fn put_lines(out: &mut [u8], at: usize, force: u8, s: u8, e: Entry) -> usize
+    requires { ⌜ at + length (textOf (change force s ++ (e ∷ []))) ≤ length (now out) ⌝ }
+    ensures length { λ r. ⌜ r ≡ at + length (textOf (change force s ++ (e ∷ []))) ⌝ }
+    ensures output { λ r. ⌜ now (out .exit) ≡ sets (now (out .entry)) at (textOf (change force s ++ (e ∷ []))) ⌝ }
+{
+    if s == force {
+        return put_line(out, at, e);
+    }
+    let next = put_line(out, at, suppliers::supplying(s));
+    put_line(out, next, e)
 }
 
 // How many bytes an entry's numbers take, a space before each.
@@ -96,12 +112,22 @@ fn numbers_size(e: Entry) -> usize
 }
 
 // How many bytes an entry's line has.
-pub(crate) fn line_size(e: Entry) -> usize
+fn line_size(e: Entry) -> usize
     ensures { λ r. ⌜ (r ≡ length (lineOf e)) × (r ≤ 30) ⌝ }
 {
     let kind = e.kind;
     let word = words::word_of(kind);
     word.length + numbers_size(e) + 1
+}
+
+// How many bytes it has with that of its supplier, where the one in force is another.
+pub(crate) fn lines_size(force: u8, s: u8, e: Entry) -> usize
+    ensures { λ r. ⌜ (r ≡ length (textOf (change force s ++ (e ∷ [])))) × (r ≤ 60) ⌝ }
+{
+    if s == force {
+        return line_size(e);
+    }
+    line_size(suppliers::supplying(s)) + line_size(e)
 }
 
 // The first place from one on where a separator stands, or the end.
@@ -172,6 +198,23 @@ fn line_of(line: &[u8]) -> Step
         Announced::Listed(kind) => numbers_at(line, end, kind),
         Announced::Unlisted => bad(refusals::UNKNOWN_WORD),
     }
+}
+
+// Whether a line begins with a row's word.
+fn row_word(line: &[u8]) -> bool
+    ensures { λ r. ⌜ r ≡ ofRow (kindSpelled (split space (now (line .entry)) .first)) ⌝ }
+{
+    let end = next_of(line, 0, SPACE);
+    kinds::of_row(words::kind_of_word(&line[0..end]))
+}
+
+// Whether the line that begins at a place of a text does.
+pub(crate) fn row_line(text: &[u8], at: usize) -> bool
+    requires { ⌜ at ≤ length (now text) ⌝ }
+    ensures { λ r. ⌜ r ≡ rowSpelled (drop at (now (text .entry))) ⌝ }
+{
+    let end = next_of(text, at, LINE_FEED);
+    row_word(&text[at..end])
 }
 
 // What is said of the line that begins at a place of a text, and where the next one begins.

@@ -12,11 +12,12 @@ use Rattle.entries.specs.declared.refusals.Refusal.{Refusal}
 use Rattle.entries.specs.Said.{answered, refusing}
 use Rattle.entries.specs.Entries.{sizeOf}
 use Rattle.table.specs.Steps.{rowLimit, questionLimit, constraintLimit}
+use Rattle.table.specs.Suppliers.{forceBehind}
 use Rattle.table.specs.Reading.{shown}
 use Rattle.entries.proofs.OneEntry.{size}
 use Rattle.table.proofs.Permission.{Room}
 use Rattle.table.proofs.Decoding.{took, turned-away}
-use Rattle.table.proofs.Turns.{At, start, here, inside-of, taken, room-here, room-for, stored, forceBehind, counting, grown, bad, bad-inside, done}
+use Rattle.table.proofs.Turns.{At, start, here, inside-of, taken, room-here, room-for, stored, counting, grown, bad, bad-inside, done}
 use borrow.Author.Needs.{needs}
 use Rattle.table.proofs.read.Statement.{statement}
 use Rattle.table.proofs.read.Tie as tie
@@ -112,12 +113,12 @@ loop-again c =
     let e = told c in
     let now = at-head e .loop in
     let next : (kind : Kind) → entry e .kind ≡ kind → came .t ≡ stored kind (now .force) (entry e) (now .t) →
-    came .force ≡ forceBehind kind (now .force) (entry e) →
+    came .force ≡ forceBehind kind (now .force) (entry e .a) →
     At (bytes e) (counting (came .t) (more .result) (larger .result)) (came .force) (now .at + sizeOf (entry e)) =
     λ kind p q r. taken (bytes e) (now .t) (now .force) (now .at) (now .inv) (in-bytes e) (entry e) _ (came .force) (taken-here e)
     (grown (bytes e) (now .t) (now .force) (now .at) (now .inv) (in-bytes e) kind (entry e) (came .t) (larger .result) (more .result)
     (taken-here e) p q (larger .ensures ∙ ap (max (came .t .predicates)) (uses .ensures .0)) (more .ensures))
-    (r ∙ ap (λ (k : Kind). forceBehind k (now .force) (entry e)) (sym p)) in
+    (r ∙ ap (λ (k : Kind). forceBehind k (now .force) (entry e .a)) (sym p)) in
     rw (c .size-of .ensures .0)
     (⊎-elim
     (λ w. next (Row (w .1 .given .0 .0)) (w .1 .given .1) (w .2) (w .3))

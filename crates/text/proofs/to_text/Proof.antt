@@ -26,7 +26,7 @@ text-is : (c : tie.After-enum-told) →
 unfolding toText
 text-is c =
     let o = open-at c in
-    rw (o .is) (ap (λ (c : Contents). answered (textOf (entries c))) (sym (ap contentsIn (o .table) ∙ contents-back (o .contents))))
+    rw (o .is) (ap (λ (c : Contents). answered (textOf (entries c))) (sym (ap contentsIn (o .table) ∙ contents-back (o .contents) (o .whole))))
 
 returns : tie.Need-returns
 unfolding toText
