@@ -73,25 +73,30 @@ named-kept new e is was p q =
     go true x h = h refl
     go false x h = refl
 
--- a number passes if it is listed among those that do, and is listed if it passes
-pub passing-in : (n : ℕ) (is : ℕ → Bool) (x : ℕ) → x < n → is x ≡ true → isAmong (passing n is) x ≡ true
+-- of the numbers that pass a test, some one is so: one below the last, or the last
+pub passing-some : (f : ℕ → Bool) (n : ℕ) (is : ℕ → Bool) → some f (passing (suc n) is) ≡ (some f (passing n is) || (is n && f n))
 unfolding passing
+passing-some f n is = some-append f (passing n is) (cond (is n) (n ∷ []) []) ∙ ap (λ (p : Bool). some f (passing n is) || p) (last (is n))
+  where
+    last : (b : Bool) → some f (cond b (n ∷ []) []) ≡ (b && f n)
+    last true = or-false (f n)
+    last false = refl
+
+-- a number is listed among them if it passes, and passes if it is listed
+pub passing-in : (n : ℕ) (is : ℕ → Bool) (x : ℕ) → x < n → is x ≡ true → isAmong (passing n is) x ≡ true
 passing-in zero is x h e = absurd (omega arith)
 passing-in (suc n) is x h e =
-    some-append (eqb x) (passing n is) (cond (is n) (n ∷ []) []) ∙ by-order x n
+    passing-some (eqb x) n is ∙ by-order x n
     (λ l. or-left _ _ (passing-in n is x l e))
-    (λ l.
-    let q : x ≡ n = omega arith in
-    or-right (isAmong (passing n is) x) _ (ap (λ (b : Bool). isAmong (cond b (n ∷ []) []) x) (ap is (sym q) ∙ e) ∙ or-left _ false (eq-eqb x n q)))
+    (λ l. let q : x ≡ n = omega arith in or-right (isAmong (passing n is) x) _ (ap₂ _&&_ (ap is (sym q) ∙ e) (eq-eqb x n q)))
 
 pub passing-of : (n : ℕ) (is : ℕ → Bool) (x : ℕ) → isAmong (passing n is) x ≡ true → (x < n) × (is x ≡ true)
 unfolding passing
 passing-of zero is x e = never (sym e)
 passing-of (suc n) is x e =
-    or-part (isAmong (passing n is) x) _ (sym (some-append (eqb x) (passing n is) (cond (is n) (n ∷ []) [])) ∙ e)
+    or-part (isAmong (passing n is) x) (is n && eqb x n) (sym (passing-some (eqb x) n is) ∙ e)
     (λ e. let h = passing-of n is x e in (omega arith, h .1))
-    (λ e. last (is n) refl e)
-  where
-    last : (b : Bool) → is n ≡ b → isAmong (cond b (n ∷ []) []) x ≡ true → (x < suc n) × (is x ≡ true)
-    last true h e = let q = eqb-true x n (sym (or-false (eqb x n)) ∙ e) in (omega arith, ap is q ∙ h)
-    last false h e = never (sym e)
+    (λ e.
+    let h = both-parts (is n) (eqb x n) e in
+    let q = eqb-true x n (h .1) in
+    (omega arith, ap is q ∙ h .0))

@@ -68,6 +68,11 @@ closed P rows step (suc n) r i p e =
     or-part (eqb i r) _ e (λ q. rw (eqb-true i r q) p)
     (λ e. found-in _ (rowsNamed (getD rows r blank)) e (λ a named k. closed P rows step n a i (step r a p named) k))
 
+-- where nothing is behind it, a step adds nothing
+no-step : (p : Bool) (l : List ℕ) → (p || some (λ a. false) l) ≡ p
+no-step p [] = or-false p
+no-step p (a ∷ l) = no-step p l
+
 -- rows under new numbers
 module _ {new : ℕ → ℕ} {Kept : ℕ → Type 0} {rows fresh : List Entry} (r : Renames new Kept rows fresh) where
   -- one step, where what is behind it is kept
@@ -78,10 +83,6 @@ module _ {new : ℕ → ℕ} {Kept : ℕ → Type 0} {rows fresh : List Entry} (
       ap₂ _||_ (same-number (r .apart) x i l k)
       (ap (λ (e : Entry). some f (rowsNamed e)) (s .there)
       ∙ named-kept new (getD rows i blank) f g (λ t. h _ (s .first t)) (λ t. h _ (s .second t)))
-
-  no-step : (p : Bool) (l : List ℕ) → (p || some (λ a. false) l) ≡ p
-  no-step p [] = or-false p
-  no-step p (a ∷ l) = no-step p l
 
   -- each step goes to a lower row, before and after, so it does not matter how many more there are
   steps-kept : (n m i x : ℕ) → Kept i → Kept x → i ≤ n → new i ≤ m → reachesWithin m fresh (new i) (new x) ≡ reachesWithin n rows i x
@@ -99,26 +100,34 @@ module _ {new : ℕ → ℕ} {Kept : ℕ → Type 0} {rows fresh : List Entry} (
   pub reach-kept : (i x : ℕ) → Kept i → Kept x → reachesRow fresh (new i) (new x) ≡ reachesRow rows i x
   reach-kept i x k l = steps-kept i (new i) i x k l (omega arith) (omega arith)
 
-  -- a row that is kept reaches only such, before and after
-  pub reached-kept : (i x : ℕ) → Kept i → reachesRow rows i x ≡ true → Kept x
-  reached-kept i x = closed Kept rows (λ k a p. named-by Kept (getD rows k blank)
-      (λ t. r .stands k p .first t .kept) (λ t. r .stands k p .second t .kept) a) i i x
-
-  -- a number that a row which is kept has now
-  abbrev pub New : ℕ → Type 0
-  New y = (x : ℕ) × Kept x × (new x ≡ y)
-
-  pub reached-new : (i y : ℕ) → Kept i → reachesRow fresh (new i) y ≡ true → New y
-  reached-new i y k = closed New fresh step (new i) (new i) y (i, k, refl)
+  -- a row that is kept reaches only such, none above it, before and after
+  pub reached-kept : (i x : ℕ) → Kept i → reachesRow rows i x ≡ true → Kept x × (x ≤ i)
+  reached-kept i x k = closed Old rows step i i x (k, omega arith)
     where
-      step : (j a : ℕ) → New j → isAmong (rowsNamed (getD fresh j blank)) a ≡ true → New a
-      step j a n named =
-          let e = getD rows (n .0) blank in
-          let s = r .stands (n .0) (n .1) in
-          named-by New (renamed new e)
-          (λ t. (e .a, s .first t .kept, sym (ap (λ (b : Bool). cond b (new (e .a)) (e .a)) t)))
-          (λ t. (e .b, s .second t .kept, sym (ap (λ (b : Bool). cond b (new (e .b)) (e .b)) t)))
-          a (rw (sym (n .2), s .there) at named)
+      Old : ℕ → Type 0
+      Old x = Kept x × (x ≤ i)
+
+      step : (j a : ℕ) → Old j → isAmong (rowsNamed (getD rows j blank)) a ≡ true → Old a
+      step j a p =
+          let s = r .stands j (p .0) in
+          let old : (a : ℕ) → Named new Kept j a → Old a = λ a n. (n .kept, omega (arith, n .lower, p .1)) in
+          named-by Old (getD rows j blank) (λ t. old _ (s .first t)) (λ t. old _ (s .second t)) a
+
+  -- a new number, not above that of row i, of a row that is kept
+  abbrev pub New : ℕ → ℕ → Type 0
+  New i y = (x : ℕ) × Kept x × (new x ≡ y) × (y ≤ new i)
+
+  pub reached-new : (i y : ℕ) → Kept i → reachesRow fresh (new i) y ≡ true → New i y
+  reached-new i y k = closed (New i) fresh step (new i) (new i) y (i, k, refl, omega arith)
+    where
+      step : (j a : ℕ) → New i j → isAmong (rowsNamed (getD fresh j blank)) a ≡ true → New i a
+      step j a p named =
+          let e = getD rows (p .0) blank in
+          let s = r .stands (p .0) (p .1) in
+          let now : (named : Bool) (x : ℕ) → named ≡ true → Named new Kept (p .0) x → New i (cond named (new x) x) =
+          λ named x t n. rw t (x, n .kept, refl, omega (arith, n .still, p .2, p .3)) in
+          named-by (New i) (renamed new e) (λ t. now _ (e .a) t (s .first t)) (λ t. now _ (e .b) t (s .second t))
+          a (rw (sym (p .2), s .there) at named)
 
 -- rows that name only lower rows stand, under their own numbers, in every list that shows the same rows
 module _ (rows : List Entry) (low : NameLower rows) where
@@ -137,13 +146,16 @@ module _ (rows : List Entry) (low : NameLower rows) where
     apart = λ x y k l e. e;
   }
 
+  pub lower-shown : (fresh : List Entry) → ((i : ℕ) → getD fresh i blank ≡ getD rows i blank) → NameLower fresh
+  lower-shown fresh same i a named = low i a (rw (same i) at named)
+
   -- as many steps as a row's number are enough
   pub enough-steps : (n r i : ℕ) → r ≤ n → reachesWithin n rows r i ≡ reachesRow rows r i
   enough-steps n r i h = steps-kept (as-shown rows (λ i. refl)) r n r i tt tt (omega arith) h
 
   -- a row reaches no row above it, and what each row that it reaches names
   pub not-above : (r i : ℕ) → reachesRow rows r i ≡ true → i ≤ r
-  not-above r i = closed (λ i. i ≤ r) rows (λ k a h named. omega (arith, low k a named)) r r i (omega arith)
+  not-above r i e = reached-kept (as-shown rows (λ i. refl)) r i tt e .1
 
   pub last-step : (r k a : ℕ) → reachesRow rows r k ≡ true → isAmong (rowsNamed (getD rows k blank)) a ≡ true → reachesRow rows r a ≡ true
   last-step r k a e named = sym (enough-steps (suc r) r a (omega arith)) ∙ one-more r rows r k a e named
