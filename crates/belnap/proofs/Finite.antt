@@ -37,6 +37,12 @@ pub neither : (p q : Bool) → (p || q) ≡ false → (p ≡ false) × (q ≡ fa
 neither true q e = never e
 neither false q e = (refl, e)
 
+-- outcomes that bring each other are equal
+pub both-ways : (p q : Bool) → (p ≡ true → q ≡ true) → (q ≡ true → p ≡ true) → p ≡ q
+both-ways true q a b = sym (a refl)
+both-ways false true a b = b refl
+both-ways false false a b = refl
+
 -- a test at the four decisions, and at the two orders
 abbrev pub every : (Decision → Bool) → Bool
 every p = (p U && p D) && (p G && p C)

@@ -2,10 +2,11 @@
 -- Striking a row is one such renaming.
 -- Assumes nothing.
 use mathlib.Core.Path.{_≡_, refl, sym, ap, ap₂, _∙_}
-use mathlib.Core.Bool.{Bool, true, cond}
+use mathlib.Core.Bool.{Bool, true, false, cond}
 use mathlib.Core.List.{List}
 use Prim.Native.Nat.{ℕ, _<_}
 use lib.ListN.{getD}
+use lib.Dec.{eqb}
 use borrow.Author.Tests.{eq-eqb, ne-eqb}
 use Rattle.belnap.specs.declared.Decision.the-variants.{U}
 use Rattle.operators.specs.Operators.{one, two}
@@ -19,6 +20,14 @@ use Rattle.entries.proofs.Numbers.{by-equal}
 use Rattle.decide.specs.Rows.{values, valueAt}
 use Rattle.decide.specs.Meaning.{decideBy, decides, decision}
 use Rattle.decide.proofs.RowByRow.{by-rows, before-there}
+
+-- with every row under its own number, an entry is the same
+pub same-entry : (e : Entry) → renamed (λ x. x) e ≡ e
+same-entry e = ap₂ (λ (a b : ℕ). record { kind = e .kind; a = a; b = b }) (either (namesRow 0 e) (e .a)) (either (namesRow 1 e) (e .b))
+  where
+    either : (b : Bool) (x : ℕ) → cond b x x ≡ x
+    either true x = refl
+    either false x = refl
 
 -- a value that comes from those of the rows named, from whether they are one row, and from an entry's own numbers only where they name no row
 abbrev pub Comes : {A : Type 0} → (Entry → A → A → A) → Type 0
@@ -60,12 +69,15 @@ abbrev pub OneToOne : (ℕ → ℕ) → (ℕ → Type 0) → Type 0
 OneToOne new Kept = (x y : ℕ) → Kept x → Kept y → new x ≡ new y → x ≡ y
 
 -- so two numbers are equal afterwards exactly if they were before
+pub same-number : {new : ℕ → ℕ} {Kept : ℕ → Type 0} → OneToOne new Kept → (x y : ℕ) → Kept x → Kept y → eqb (new x) (new y) ≡ eqb x y
+same-number {new} apart x y k l =
+    by-equal x y
+    (λ s. eq-eqb (new x) (new y) (ap new s) ∙ sym (eq-eqb x y s))
+    (λ d. ne-eqb (new x) (new y) (λ s. d (apart x y k l s)) ∙ sym (ne-eqb x y d))
+
 pub equal-still : {new : ℕ → ℕ} {Kept : ℕ → Type 0} → OneToOne new Kept → (e : Entry) → namesRow 0 e ≡ true → namesRow 1 e ≡ true →
     Kept (e .a) → Kept (e .b) → equalNumbers (renamed new e) ≡ equalNumbers e
-equal-still {new} apart e p q a b =
-    rw (p, q) (by-equal (e .a) (e .b)
-    (λ s. eq-eqb (new (e .a)) (new (e .b)) (ap new s) ∙ sym (eq-eqb (e .a) (e .b) s))
-    (λ d. ne-eqb (new (e .a)) (new (e .b)) (λ s. d (apart (e .a) (e .b) a b s)) ∙ sym (ne-eqb (e .a) (e .b) d)))
+equal-still apart e p q a b = rw (p, q) (same-number apart (e .a) (e .b) a b)
 
 -- rows under new numbers: each that is kept stands under its own
 pub record Renames (new : ℕ → ℕ) (Kept : ℕ → Type 0) (rows fresh : List Entry) : Type 0 where

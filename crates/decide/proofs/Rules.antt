@@ -1,8 +1,7 @@
 -- Each row of an accepted table has its value by its kind, from the values of the rows that it names: what it decides, and its set of decisions where facts
 -- are missing (01, "The table, byte by byte", "The four decisions" and "Missing facts").
 -- Assumes nothing.
-use mathlib.Core.Path.{_≡_, refl, sym, ap, ap₂, _∙_}
-use mathlib.Core.Bool.{Bool, true, false, cond}
+use mathlib.Core.Path.{_≡_, sym, ap, _∙_}
 use mathlib.Core.List.{List}
 use Prim.Native.Nat.{ℕ, _<_}
 use native.Mathlib.Omega.{arith}
@@ -10,22 +9,13 @@ use lib.ListN.{length, getD}
 use Rattle.entries.specs.declared.Entry.{Entry}
 use Rattle.entries.specs.Said.{answered}
 use Rattle.entries.specs.Entries.{blank, equalNumbers}
-use Rattle.entries.specs.Renaming.{namesRow, renamed}
 use Rattle.table.specs.Contents.{Contents}
 use Rattle.table.specs.Reading.{reading}
 use Rattle.table.proofs.Laws.{row-sound}
 use Rattle.table.proofs.Renaming.{first-below, second-below}
 use Rattle.decide.specs.Rows.{valueAt}
 use Rattle.decide.proofs.RowByRow.{before-there}
-use Rattle.decide.proofs.Renaming.{Comes}
-
--- with every row under its own number, an entry is the same
-same-entry : (e : Entry) → renamed (λ x. x) e ≡ e
-same-entry e = ap₂ (λ (a b : ℕ). record { kind = e .kind; a = a; b = b }) (either (namesRow 0 e) (e .a)) (either (namesRow 1 e) (e .b))
-  where
-    either : (b : Bool) (x : ℕ) → cond b x x ≡ x
-    either true x = refl
-    either false x = refl
+use Rattle.decide.proofs.Renaming.{same-entry, Comes}
 
 module _ (s : List ℕ) (c : Contents) (is : reading s ≡ answered c) (r : ℕ) (there : r < length (c .rows)) {A : Type 0} (f : Entry → A → A → A)
     (comes : Comes f) where

@@ -1,5 +1,5 @@
--- What the promises of this crate mean: values row by row, what a row decides at a complete request, which predicates it reaches,
--- and requests beside each other.
+-- What the promises of this crate mean: values row by row, what a row decides at a complete request, which rows and
+-- predicates it reaches, and requests beside each other.
 pub mod Rows
 pub mod Meaning
 pub mod Reach

@@ -1,4 +1,4 @@
--- Values of rows, each from those of the rows that it names: decisions, sets of decisions, predicates reached, and questions alike.
+-- Values of rows, each from those of the rows that it names: decisions, sets of decisions, and questions alike.
 use Prim.Native.Nat.{ℕ, zero, suc}
 use mathlib.Core.List.{List, [], _∷_, _++_}
 use lib.ListN.{getD}

@@ -7,7 +7,7 @@ use mathlib.Core.Option.{none, some}
 use Prim.Native.Nat.{ℕ, zero, suc}
 use lib.ListN.{getElem?}
 use borrow.Author.Tests.{eqb-true, eq-eqb}
-use Rattle.belnap.proofs.Finite.{both-parts, or-left, or-right, or-part, never}
+use Rattle.belnap.proofs.Finite.{both-parts, or-left, or-right, or-part, both-ways, never}
 use Rattle.possible.specs.Sets.{Finite, Set, Within, any, single, either, choosing, choices, imageOne, imageTwo}
 
 -- nothing stands in an empty list
@@ -34,11 +34,6 @@ same-set s t h = λ i. record { has = λ v. h v i }
 
 each-within : {F : Finite} (s t : Set F) → Within s t → Within t s → s ≡ t
 each-within s t a b = same-set s t (λ v. both-ways (s .has v) (t .has v) (a v) (b v))
-  where
-    both-ways : (p q : Bool) → (p ≡ true → q ≡ true) → (q ≡ true → p ≡ true) → p ≡ q
-    both-ways true q a b = sym (a refl)
-    both-ways false true a b = b refl
-    both-ways false false a b = refl
 
 -- "its one decision"
 pub single-has : (F : Finite) (x : F .Member) → single {F = F} x .has x ≡ true
