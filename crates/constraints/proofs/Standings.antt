@@ -10,7 +10,7 @@ use Rattle.belnap.proofs.Finite.{never, or-right}
 use Rattle.kinds.specs.declared.ConstraintKind.{ConstraintKind}
 use Rattle.kinds.specs.declared.ConstraintKind.the-variants.{NeverBoth, OnlyIf}
 use Rattle.kinds.specs.declared.Kind.{Kind}
-use Rattle.kinds.specs.declared.Kind.the-variants.{Row, Question, Constraint}
+use Rattle.kinds.specs.declared.Kind.the-variants.{Row, Question, Constraint, Supplier}
 use Rattle.kinds.specs.declared.Announced.{Announced}
 use Rattle.kinds.specs.declared.Announced.the-variants.{Listed, Unlisted}
 use Rattle.kinds.specs.Kinds.{formOf, kindOf, asConstraint}
@@ -35,6 +35,7 @@ other-byte byte h = go (kindOf byte) refl
     by-kind (Question k) h = refl
     by-kind (Constraint NeverBoth) h = absurd (h refl)
     by-kind (Constraint OnlyIf) h = refl
+    by-kind Supplier h = refl
 
     go : (a : Announced) → kindOf byte ≡ a → asConstraint (kindOr a) ≡ OnlyIf
     go Unlisted e = refl

@@ -14,9 +14,9 @@ use Rattle.operators.specs.Operators.{one, two}
 use Rattle.belnap.proofs.Finite.{never, or-right, or-part}
 use Rattle.kinds.specs.declared.RowKind.the-variants.{Always, DenyIf, GrantIf, One, Two}
 use Rattle.kinds.specs.declared.Kind.{Kind}
-use Rattle.kinds.specs.declared.Kind.the-variants.{Row, Question, Constraint}
+use Rattle.kinds.specs.declared.Kind.the-variants.{Row, Question, Constraint, Supplier}
 use Rattle.kinds.specs.declared.Names.{Names}
-use Rattle.kinds.specs.declared.Names.the-variants.{Nothing, Predicates, Rows, Questions}
+use Rattle.kinds.specs.declared.Names.the-variants.{Nothing, Predicates, Rows, Questions, Suppliers}
 use Rattle.entries.specs.declared.Entry.{Entry}
 use Rattle.entries.specs.Refusals.{isAmong}
 use Rattle.entries.specs.Entries.{namesOf, numbersIn, blank, highestOf, uses}
@@ -44,6 +44,7 @@ row-agrees (Row (Two op)) a b m o x y u v h p q =
     ap₂ (two op) (p (at-front a (b ∷ []))) (q (or-right (eqb b a) _ (at-front b [])))
 row-agrees (Question k) a b m o x y u v h p q = refl
 row-agrees (Constraint k) a b m o x y u v h p q = refl
+row-agrees Supplier a b m o x y u v h p q = refl
 
 -- a row reaches what it names, and what each lower row that it names reaches
 own-predicate : (rows : List Entry) (r p : ℕ) → isAmong (predicatesNamed (getD rows r blank)) p ≡ true → reaches rows r p ≡ true
@@ -80,6 +81,7 @@ below-uses e p = go (namesOf e) (numbersIn e)
     go Predicates l e = below-highest l p e
     go Rows l e = never (sym e)
     go Questions l e = never (sym e)
+    go Suppliers l e = never (sym e)
 
 pub reach-below : (rows : List Entry) (n : ℕ) → Covers n rows → (p r : ℕ) → reaches rows r p ≡ true → p < n
 reach-below rows n covers p r e =

@@ -12,7 +12,7 @@ use Rattle.belnap.specs.declared.Decision.the-variants.{U}
 use Rattle.operators.specs.Operators.{one, two}
 use Rattle.kinds.specs.declared.RowKind.the-variants.{Always, DenyIf, GrantIf, One, Two}
 use Rattle.kinds.specs.declared.Kind.{Kind}
-use Rattle.kinds.specs.declared.Kind.the-variants.{Row, Question, Constraint}
+use Rattle.kinds.specs.declared.Kind.the-variants.{Row, Question, Constraint, Supplier}
 use Rattle.entries.specs.declared.Entry.{Entry}
 use Rattle.entries.specs.Entries.{blank, equalNumbers}
 use Rattle.entries.specs.Renaming.{namesRow, renamed}
@@ -51,6 +51,7 @@ decisions-come m new e x y u v p q same = go (e .kind) (e .a) (e .b) p q
     go (Row (Two op)) a b p q = ap₂ (two op) (p refl) (q refl)
     go (Question k) a b p q = refl
     go (Constraint k) a b p q = refl
+    go Supplier a b p q = refl
 
 -- a row named by row i: it is kept, it is lower, and so it is under the new numbers
 pub record Named (new : ℕ → ℕ) (Kept : ℕ → Type 0) (i x : ℕ) : Type 0 where

@@ -6,7 +6,7 @@ use mathlib.Core.List.{List, [], _∷_, _++_}
 use lib.ListN.{getD}
 use lib.Dec.{eqb}
 use Rattle.kinds.specs.declared.Names.{Names}
-use Rattle.kinds.specs.declared.Names.the-variants.{Nothing, Predicates, Rows, Questions}
+use Rattle.kinds.specs.declared.Names.the-variants.{Nothing, Predicates, Rows, Questions, Suppliers}
 use Rattle.entries.specs.declared.Entry.{Entry}
 use Rattle.entries.specs.Lists.{some}
 use Rattle.entries.specs.Refusals.{isAmong}
@@ -45,6 +45,7 @@ predicateNumbers Nothing = false
 predicateNumbers Predicates = true
 predicateNumbers Rows = false
 predicateNumbers Questions = false
+predicateNumbers Suppliers = false
 
 abbrev pub predicatesNamed : Entry → List ℕ
 predicatesNamed e = cond (predicateNumbers (namesOf e)) (numbersIn e) []

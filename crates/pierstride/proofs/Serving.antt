@@ -24,7 +24,7 @@ use Rattle.entries.proofs.Saying.{unless-none, unless-some}
 use Rattle.table.proofs.Laws.{limits}
 use Rattle.table.proofs.Opening.{Opened}
 use Rattle.table.proofs.Padding.{padded-at}
-use Rattle.table.proofs.Held.{upTo-padded}
+use Rattle.table.proofs.Held.{first-padded}
 use Rattle.decide.specs.Meaning.{decides, decision, decisionIn}
 use Rattle.decide.proofs.RowByRow.{same-value}
 use Rattle.possible.specs.Sets.{decisions, single, mask}
@@ -75,7 +75,7 @@ module _ {s : List ℕ} {got : Reading} (o : Opened s got) where
   bounds-are =
       let constraints = o .contents .constraints in
       let all : min (length constraints) constraintLimit ≡ length constraints = omega (arith, o .whole .constraints-fit) in
-      ap boundsIn (o .table) ∙ ap (upTo (padded blank constraintLimit constraints)) all ∙ upTo-padded constraintLimit constraints
+      ap boundsIn (o .table) ∙ ap (upTo (padded blank constraintLimit constraints)) all ∙ first-padded blank constraintLimit constraints
 
   -- what each service answers of it
   pub counts-answer :

@@ -11,7 +11,7 @@ use Rattle.operators.specs.Operators.{openDefault, implication, guard, override
 use Rattle.kinds.specs.Kinds.{kindOf}
 use Rattle.entries.specs.Said.{Said, answered, refusing}
 use Rattle.entries.specs.Entries.{bytesOf}
-use Rattle.table.specs.Steps.{bodyOf, decoded, noRoom, offending, permitted, judged, stepOf}
+use Rattle.table.specs.Steps.{bodyOf, decoded, noRoom, offending, placed, permitted, judged, stepOf}
 use Rattle.table.specs.Contents.{Contents}
 use Rattle.table.specs.Reading.{after, readOn, reading}
 use Rattle.decide.specs.Rows.{values, valueAt}
@@ -52,6 +52,6 @@ cases =
     record { brought = remaining (reading (0x11 ∷ 0x00 ∷ 0x11 ∷ 0x00 ∷ 0x34 ∷ 0x00 ∷ 0x01 ∷ [])) 2; stated = members (ofMask decisions 5) } ∷ []
 
 pub right : map (λ c. c .brought) cases ≡ map (λ c. c .stated) cases
-unfolding reading readOn after stepOf judged permitted offending noRoom decoded bodyOf kindOf bytesOf values valueAt bit factSet setBy choosing imageOne
+unfolding reading readOn after stepOf judged placed permitted offending noRoom decoded bodyOf kindOf bytesOf values valueAt bit factSet setBy choosing imageOne
     imageTwo ofMask
 right = refl

@@ -8,7 +8,7 @@ use Rattle.belnap.specs.declared.Decision.the-variants.{U}
 use Rattle.operators.specs.Operators.{one}
 use Rattle.kinds.specs.declared.RowKind.the-variants.{Always, DenyIf, GrantIf, One, Two}
 use Rattle.kinds.specs.declared.Kind.{Kind}
-use Rattle.kinds.specs.declared.Kind.the-variants.{Row, Question, Constraint}
+use Rattle.kinds.specs.declared.Kind.the-variants.{Row, Question, Constraint, Supplier}
 use Rattle.entries.specs.declared.Entry.{Entry}
 use Rattle.entries.specs.Entries.{equalNumbers}
 use Rattle.entries.specs.Renaming.{namesRow, renamed}
@@ -34,6 +34,7 @@ sets-come known request new e x y u v p q same = go (e .kind) (e .a) (e .b) p q 
     go (Row (Two op)) a b p q same = rw (p refl, q refl, same refl refl)
     go (Question k) a b p q same = refl
     go (Constraint k) a b p q same = refl
+    go Supplier a b p q same = refl
 
 pub possible-kept : {new : ℕ → ℕ} {Kept : ℕ → Type 0} {rows fresh : List Entry} → Renames new Kept rows fresh → (known request i : ℕ) →
     Kept i → possible fresh known request (new i) ≡ possible rows known request i

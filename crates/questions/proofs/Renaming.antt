@@ -11,7 +11,7 @@ use Rattle.belnap.proofs.Finite.{never}
 use Rattle.kinds.specs.declared.QuestionKind.{QuestionKind}
 use Rattle.kinds.specs.declared.QuestionKind.the-variants.{Compare, Not, Both}
 use Rattle.kinds.specs.declared.Kind.{Kind}
-use Rattle.kinds.specs.declared.Kind.the-variants.{Row, Question, Constraint}
+use Rattle.kinds.specs.declared.Kind.the-variants.{Row, Question, Constraint, Supplier}
 use Rattle.entries.specs.declared.Entry.{Entry}
 use Rattle.kinds.specs.Kinds.{isQuestion, asQuestion}
 use Rattle.entries.specs.Entries.{blank, equalNumbers}
@@ -63,6 +63,7 @@ rows-named e = ⊎-elim (λ q c. go (e .kind) (e .a) (e .b) q c) (λ q c. never 
     go (Question Not) a b q c = never (sym c)
     go (Question Both) a b q c = never (sym c)
     go (Constraint k) a b q c = never (sym q)
+    go Supplier a b q c = never (sym q)
 
 numbers-stay : (new : ℕ → ℕ) (e : Entry) → Asked e → compares (asQuestion (e .kind)) ≡ false →
     (renamed new e .a ≡ e .a) × (renamed new e .b ≡ e .b)
@@ -75,6 +76,7 @@ numbers-stay new e = ⊎-elim (λ q c. go (e .kind) (e .a) (e .b) q c) (λ q c. 
     go (Question Not) a b q c = (refl, refl)
     go (Question Both) a b q c = (refl, refl)
     go (Constraint k) a b q c = never (sym q)
+    go Supplier a b q c = never (sym q)
 
 -- questions that name rows which are kept, under their new numbers
 pub record Follows (new : ℕ → ℕ) (Kept : ℕ → Type 0) (questions fresh : List Entry) : Type 0 where

@@ -10,14 +10,14 @@ use lib.Seq.{ext-getD, length-take-le}
 use Rattle.entries.specs.declared.Entry.{Entry}
 use Rattle.kinds.specs.Kinds.{formOf, kindOf}
 use Rattle.entries.specs.Entries.{numberLimit, blank}
-use Rattle.table.specs.Reading.{padded, upTo}
+use Rattle.table.specs.Reading.{padded, firstOf, upTo}
 use Rattle.runs.specs.declared.Part.{Part}
 use Rattle.runs.specs.declared.Part.the-variants.{Constraints, Rows, Questions}
 use Rattle.table.specs.Steps.{rowLimit}
 use Rattle.runs.specs.Flat.{perEntry, limitOf, flat, kindIn, entriesIn, roomFor}
 use Rattle.kinds.proofs.KindTable.{kind-of-byte}
 use Rattle.table.proofs.Padding.{padded-length, padded-next}
-use Rattle.table.proofs.Held.{upTo-length, upTo-at}
+use Rattle.table.proofs.Held.{first-length, first-at}
 
 flat-length : (es : List Entry) → length (flat es) ≡ perEntry * length es
 unfolding flat
@@ -47,7 +47,7 @@ longer l x at m = length-append l (x ∷ []) ∙ omega (arith, m)
 pub flat-turn : (es : List Entry) (size i k : ℕ) (run : List ℕ) → perEntry * i + 2 < size → Written es i size run →
     k ≡ formOf (getD es i blank .kind) .byte →
     Written es (i + 1) size (set (set (set run (perEntry * i) k) (perEntry * i + 1) (getD es i blank .a)) (perEntry * i + 2) (getD es i blank .b))
-unfolding upTo
+unfolding firstOf
 flat-turn es size i k run h q r =
     let e = getD es i blank in
     let byte = formOf (e .kind) .byte in
@@ -55,7 +55,7 @@ flat-turn es size i k run h q r =
     let l = flat (upTo es i) in
     let one = l ++ (byte ∷ []) in
     let two = one ++ (e .a ∷ []) in
-    let m : length l ≡ at = flat-length (upTo es i) ∙ ap (λ (x : ℕ). perEntry * x) (upTo-length es i) in
+    let m : length l ≡ at = flat-length (upTo es i) ∙ ap (λ (x : ℕ). perEntry * x) (first-length blank es i) in
     let m₁ : length one ≡ at + 1 = longer l byte at m in
     let m₂ : length two ≡ at + 2 = longer one (e .a) (at + 1) m₁ ∙ omega arith in
     rw (add-one i, flat-more (upTo es i) e, q, r)
@@ -147,11 +147,11 @@ front-at run (suc n) i h = let q : perEntry * suc n ≡ suc (suc (suc (perEntry 
 -- the part in front of a run holds the entries that were written to it, and no number beyond
 module _ (es : List Entry) (n size : ℕ) (run : List ℕ) (is : Written es n size run) where
   pub run-at : (i : ℕ) → i < n → getD (entriesIn (front n run)) i blank ≡ getD es i blank
-  run-at i h = front-at run n i h ∙ ap (λ (l : List ℕ). getD (entriesIn l) i blank) is ∙ run-holds (upTo es n) size i ∙ upTo-at es n i h
+  run-at i h = front-at run n i h ∙ ap (λ (l : List ℕ). getD (entriesIn l) i blank) is ∙ run-holds (upTo es n) size i ∙ first-at blank es n i h
 
   module _ (fits : perEntry * n ≤ size) where
     run-length : length run ≡ size
-    run-length = ap length is ∙ padded-length 0 size (flat (upTo es n)) (rw (flat-length (upTo es n), upTo-length es n) fits)
+    run-length = ap length is ∙ padded-length 0 size (flat (upTo es n)) (rw (flat-length (upTo es n), first-length blank es n) fits)
 
     pub front-length : length (front n run) ≡ perEntry * n
     front-length = length-take-le (perEntry * n) run (omega (arith, run-length))
@@ -160,8 +160,8 @@ module _ (es : List Entry) (n size : ℕ) (run : List ℕ) (is : Written es n si
     pub run-entries : entriesIn (front n run) ≡ upTo es n
     run-entries =
         let many : length (entriesIn (front n run)) ≡ n = omega (arith, entries-count (front n run), front-length) in
-        ext-getD blank (entriesIn (front n run)) (upTo es n) (many ∙ sym (upTo-length es n))
-        (λ i l. let here = rw many at l in run-at i here ∙ sym (upTo-at es n i here))
+        ext-getD blank (entriesIn (front n run)) (upTo es n) (many ∙ sym (first-length blank es n))
+        (λ i l. let here = rw many at l in run-at i here ∙ sym (first-at blank es n i here))
 
     pub room-in : (places : ℕ) → n ≤ places → roomFor (front n run) places ≡ n
     room-in places l = omega (arith, front-length)

@@ -16,7 +16,7 @@ use Rattle.table.specs.Contents.{others, written}
 use Rattle.table.specs.Reading.{contentsIn}
 use Rattle.entries.proofs.OneEntry.{size, onto-long}
 use Rattle.table.proofs.Writing.{written-append, written-more}
-use Rattle.table.proofs.Held.{upTo-length, others-length, other-row, other-question}
+use Rattle.table.proofs.Held.{first-length, others-length, other-row, other-question}
 use Rattle.strike.specs.Strike.{old, lowered, closedUp, struckBytes}
 use Rattle.strike.proofs.Renumbering.{old-below, old-above}
 use Rattle.strike.proofs.Closing.{closed-at, length-closed}
@@ -43,16 +43,16 @@ module _ (t : Table) (r : ℕ) where
   left = constraints ++ closed
 
   pub struck-left : r < used → struckBytes r (contentsIn t) ≡ written left
-  struck-left u = ap (λ (es : List Entry). written (constraints ++ es)) (struck-others r (contentsIn t) (rw (upTo-length (t .rows) used) u))
+  struck-left u = ap (λ (es : List Entry). written (constraints ++ es)) (struck-others r (contentsIn t) (rw (first-length blank (t .rows) used) u))
 
   pub left-count : r < used → length left ≡ bound + used + asked - 1
   left-count u =
       let fewer = length-closed r (others (contentsIn t)) (omega (arith, others-length t)) in
-      omega (arith, length-append constraints closed, upTo-length (t .constraints) bound, fewer, others-length t)
+      omega (arith, length-append constraints closed, first-length blank (t .constraints) bound, fewer, others-length t)
 
   -- the constraints are the first of them
   constraints-first : take bound left ≡ constraints
-  constraints-first = take-at constraints closed bound (upTo-length (t .constraints) bound)
+  constraints-first = take-at constraints closed bound (first-length blank (t .constraints) bound)
 
   -- entry j behind the constraints, as the code takes it, from its number i among the others of the table
   pub left-next : {A B C D : Type 0} (j i : ℕ) (g : Entry) → j < used + asked - 1 →
@@ -67,7 +67,7 @@ module _ (t : Table) (r : ℕ) where
       let m : g ≡ lowered r (getD (others (contentsIn t)) i blank) =
       ⊎-elim (λ w. row w .1 ∙ ap (lowered r) (sym (other-row t i (row w .0))))
       (λ w. question w .1 ∙ ap (lowered r) (sym (other-question t i (question w .0) here))) entry in
-      let at : bound + j ≡ length constraints + j = omega (arith, upTo-length (t .constraints) bound) in
+      let at : bound + j ≡ length constraints + j = omega (arith, first-length blank (t .constraints) bound) in
       m ∙ ap (λ (i : ℕ). lowered r (getD (others (contentsIn t)) i blank)) o ∙ sym (closed-at r (others (contentsIn t)) j)
       ∙ sym (ap (λ (k : ℕ). getD left k blank) at ∙ getD-append-add constraints closed j blank)
 

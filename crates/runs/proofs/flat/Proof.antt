@@ -3,7 +3,7 @@ use Rattle.runs.proofs.Runs.{Written, flat-turn, part-fits}
 use Rattle.runs.specs.Flat.{perEntry, entriesOf, limitOf, flat}
 use Rattle.kinds.specs.declared.Form.{Form}
 use Rattle.table.specs.Steps.{rowLimit}
-use Rattle.table.specs.Reading.{upTo}
+use Rattle.table.specs.Reading.{firstOf}
 use native.Mathlib.Omega.{arith}
 use Prim.Native.Nat.{_*_, _-_, _≤_, _<_}
 use lib.ListN.{getD}
@@ -21,7 +21,7 @@ abbrev μ-loop : tie.MeasureT-loop
 μ-loop part below t end run₀ i₀ run i = end - i
 
 loop-holds : tie.Need-loop-holds Inv-loop μ-loop
-unfolding upTo flat
+unfolding firstOf flat
 loop-holds c = (omega arith, refl)
 
 -- the number of an entry is one that the part has room for

@@ -5,7 +5,7 @@ use native.Mathlib.Omega.{arith}
 use lib.ListN.{length, getD}
 use Rattle.entries.specs.Entries.{blank}
 use Rattle.table.specs.Reading.{contentsIn}
-use Rattle.table.proofs.Held.{upTo-length, upTo-at}
+use Rattle.table.proofs.Held.{first-length, first-at}
 use Rattle.strike.proofs.Filling.{Filled, filled-none, filled-all, filled-within, filled-length, filled-room, filled-more}
 use borrow.Author.Needs.{needs}
 use Rattle.strike.proofs.keep.Statement.{statement}
@@ -39,13 +39,13 @@ start c = c .before .before
 is-there : (c : tie.After-put Inv-loop μ-loop) → at-head c .loop .i < length (contentsIn (start (at-head c) .args .t1) .constraints)
 is-there c =
     let t = start (at-head c) .args .t1 in
-    omega (arith, c .before .before .before .loop-test .taken, upTo-length (t .constraints) (t .tally .constraints))
+    omega (arith, c .before .before .before .loop-test .taken, first-length blank (t .constraints) (t .tally .constraints))
 
 next : (c : tie.After-put Inv-loop μ-loop) → let t = start (at-head c) .args .t1 in
     getD (t .constraints) (at-head c .loop .i) blank ≡ getD (contentsIn t .constraints) (at-head c .loop .i) blank
 next c =
     let t = start (at-head c) .args .t1 in
-    sym (upTo-at (t .constraints) (t .tally .constraints) (at-head c .loop .i) (omega (arith, c .before .before .before .loop-test .taken)))
+    sym (first-at blank (t .constraints) (t .tally .constraints) (at-head c .loop .i) (omega (arith, c .before .before .before .loop-test .taken)))
 
 add-end : tie.Need-add-end Inv-loop μ-loop
 add-end c =
@@ -68,7 +68,7 @@ same-length c = filled-length (c .before .loop .inv .1)
 returns : tie.Need-returns Inv-loop μ-loop
 returns c =
     let t = start (c .before) .args .t1 in
-    filled-all (c .before .loop .inv .1) (omega (arith, upTo-length (t .constraints) (t .tally .constraints)))
+    filled-all (c .before .loop .inv .1) (omega (arith, first-length blank (t .constraints) (t .tally .constraints)))
 
 pub keep-spec : {M : Type 1} → statement M
 keep-spec =
