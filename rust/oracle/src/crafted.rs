@@ -1,5 +1,6 @@
 //! Tables made for a purpose: walks of a known length, every set there is, constraints
-//! on predicates that a walk comes to, and the longest text.
+//! on predicates that a walk comes to, rows that reach as many others as they can, and the
+//! longest text.
 
 use crate::kinds::*;
 use crate::{CONSTRAINTS, PREDICATES, QUESTIONS, ROWS};
@@ -123,14 +124,36 @@ fn questions_on_every_set() -> Vec<u8> {
     bytes
 }
 
+/// A table of so many rows, of which each but the first negates the one before it; so
+/// every row reaches all before it. Row r's supplier is 255 - r.
+pub fn chain_of_rows(count: usize) -> Vec<u8> {
+    let row = |number: u8| match number {
+        0 => vec![SUPPLIER, 255, CONSTANTS[2]],
+        _ => vec![SUPPLIER, 255 - number, ON_ONE_ROW[0], number - 1],
+    };
+    (0..count).flat_map(|number| row(number as u8)).collect()
+}
+
+/// A table of so many rows, of which each names two that stand side by side about halfway
+/// down; so each reaches some below every such step, and none of the rows right before it.
+/// Row r's supplier is that of `chain_of_rows`.
+pub fn steps_of_rows(count: usize) -> Vec<u8> {
+    let row = |number: u8| match number {
+        0 | 1 => vec![SUPPLIER, 255 - number, CONSTANTS[2]],
+        _ => vec![SUPPLIER, 255 - number, ON_TWO_ROWS[0], number / 2, number / 2 - 1],
+    };
+    (0..count).flat_map(|number| row(number as u8)).collect()
+}
+
 /// The table with the longest text: every entry has the longest word that it can
-/// have, and the highest numbers. The first row can name no row.
+/// have, and the highest numbers. The first row can name no row. Before each row stands a
+/// supplier of three digits, and next to each other two differ.
 pub fn longest_text() -> Vec<u8> {
     let mut bytes = [NEVER_BOTH, 23, 23].repeat(CONSTRAINTS);
-    bytes.extend([0x11, 23]);
+    bytes.extend([SUPPLIER, 255, 0x11, 23]);
     for number in 1..ROWS {
         let before = (number - 1) as u8;
-        bytes.extend([0x38, before, before]);
+        bytes.extend([SUPPLIER, 254 + before % 2, 0x38, before, before]);
     }
     bytes.extend([0x41, 255, 255].repeat(QUESTIONS));
     bytes
