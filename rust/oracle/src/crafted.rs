@@ -125,24 +125,37 @@ fn questions_on_every_set() -> Vec<u8> {
 }
 
 /// A table of so many rows, of which each but the first negates the one before it; so
-/// every row reaches all before it. Row r's supplier is 255 - r.
+/// every row reaches all before it, by one way.
 pub fn chain_of_rows(count: usize) -> Vec<u8> {
-    let row = |number: u8| match number {
-        0 => vec![SUPPLIER, 255, CONSTANTS[2]],
-        _ => vec![SUPPLIER, 255 - number, ON_ONE_ROW[0], number - 1],
-    };
-    (0..count).flat_map(|number| row(number as u8)).collect()
+    supplied_falling(count, |number| match number {
+        0 => vec![CONSTANTS[2]],
+        _ => vec![ON_ONE_ROW[0], number - 1],
+    })
 }
 
-/// A table of so many rows, of which each names two that stand side by side about halfway
-/// down; so each reaches some below every such step, and none of the rows right before it.
-/// Row r's supplier is that of `chain_of_rows`.
+/// A table of so many rows, of which each but the first two names both before it; so every
+/// row reaches all before it, by far more ways than could be followed one by one.
+pub fn ladder_of_rows(count: usize) -> Vec<u8> {
+    supplied_falling(count, |number| match number {
+        0 | 1 => vec![CONSTANTS[2]],
+        _ => vec![ON_TWO_ROWS[0], number - 1, number - 2],
+    })
+}
+
+/// A table of so many rows, of which each but the first two names two that stand next to
+/// each other about halfway down; so a row reaches few others, and none right before it.
 pub fn steps_of_rows(count: usize) -> Vec<u8> {
-    let row = |number: u8| match number {
-        0 | 1 => vec![SUPPLIER, 255 - number, CONSTANTS[2]],
-        _ => vec![SUPPLIER, 255 - number, ON_TWO_ROWS[0], number / 2, number / 2 - 1],
-    };
-    (0..count).flat_map(|number| row(number as u8)).collect()
+    supplied_falling(count, |number| match number {
+        0 | 1 => vec![CONSTANTS[2]],
+        _ => vec![ON_TWO_ROWS[0], number / 2, number / 2 - 1],
+    })
+}
+
+/// A table of so many rows, of which each has a supplier of its own: 255 has row 0, and so
+/// on, falling.
+fn supplied_falling(count: usize, row: impl Fn(u8) -> Vec<u8>) -> Vec<u8> {
+    let supplied = |number| [vec![SUPPLIER, 255 - number], row(number)].concat();
+    (0..count).flat_map(|number| supplied(number as u8)).collect()
 }
 
 /// The table with the longest text: every entry has the longest word that it can

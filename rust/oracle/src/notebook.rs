@@ -503,10 +503,11 @@ fn lists() -> Vec<Case> {
         .flat_map(|(table, row, list)| with_every_room(&hex(table), row, list))
         .collect();
     // Every supplier, falling from row to row.
-    let chain = crafted::chain_of_rows(ROWS);
-    for row in [0, 1, 100, 255] {
-        let list: Vec<u8> = (255 - row..=255).collect();
-        cases.extend(with_every_room(&chain, row.into(), &list));
+    for table in [crafted::chain_of_rows(ROWS), crafted::ladder_of_rows(ROWS)] {
+        for row in [0, 2, 100, 255] {
+            let list: Vec<u8> = (255 - row..=255).collect();
+            cases.extend(with_every_room(&table, row.into(), &list));
+        }
     }
     cases
 }

@@ -101,7 +101,8 @@ fn both_methods_give_one_list() {
     for shape in &tables::SHAPES {
         random_tables.extend((0..5).map(|_| tables::table(&mut random, shape)));
     }
-    let crafted = [crafted::chain_of_rows(ROWS), crafted::steps_of_rows(ROWS)];
+    let crafted = [crafted::chain_of_rows, crafted::ladder_of_rows, crafted::steps_of_rows];
+    let crafted = crafted.map(|table| table(ROWS));
     for table in random_tables.iter().chain(&crafted) {
         let rows = read(table).expect("an accepted table").rows.len() as u32;
         for row in 0..=rows {
