@@ -54,6 +54,7 @@ pub fn check_reading(
             None => return,
         }
     }
+    suppliers::check_encoding(&bytes);
     check_spoilt(&mut desk, random, &bytes);
 }
 

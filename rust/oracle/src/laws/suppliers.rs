@@ -6,24 +6,31 @@
 use super::texts::check_rooms;
 use super::{Desk, Tried};
 use crate::call::{Answer, Call};
-use crate::kinds::{ON_ONE_ROW, ON_TWO_ROWS, SUPPLIER};
+use crate::kinds::{Group, ON_ONE_ROW, ON_TWO_ROWS, SUPPLIER};
 use crate::random::Random;
 use crate::refusal::{Refusal, IDLE_SUPPLIER, NOT_THERE};
 use crate::supplied::{in_force, is_row, suppliers_of, with_suppliers, without_suppliers};
 use crate::tables::garbage;
 use crate::texts::entries;
-use crate::SUPPLIERS;
+use crate::{Part, SUPPLIERS};
 
 /// Checks every law of suppliers on an accepted table.
 pub(super) fn check(desk: &mut Desk, tried: &Tried, random: &mut Random) {
     let bytes = tried.bytes;
-    let plain = without_suppliers(bytes);
-    let suppliers = suppliers_of(bytes);
-    assert_eq!(with_suppliers(&plain, &suppliers), bytes, "another encoding");
+    check_encoding(bytes);
+    let (plain, suppliers) = (without_suppliers(bytes), suppliers_of(bytes));
     check_plain(desk, tried, &plain, random);
     check_entries(desk, bytes);
     check_lists(desk, bytes, &suppliers);
     check_strikes(desk, bytes, &plain, &suppliers);
+}
+
+/// There is one encoding of a table's entries and of whose its rows are, and an accepted
+/// table is that: each supplier that is named is another than the one in force, and a row
+/// is behind it.
+pub(super) fn check_encoding(bytes: &[u8]) {
+    let encoded = with_suppliers(&without_suppliers(bytes), &suppliers_of(bytes));
+    assert_eq!(encoded, bytes, "another encoding was accepted");
 }
 
 impl Desk<'_> {
@@ -139,10 +146,10 @@ fn check_strikes(desk: &mut Desk, bytes: &[u8], plain: &[u8], suppliers: &[u8]) 
     }
 }
 
-/// Refusal 15 speaks of a supplier that is in force already, and then nothing behind it
-/// makes a difference, or that is not followed by a row's kind byte, and then nothing
-/// behind that byte does. Without it reading comes no less far: the answer is the bytes
-/// without it.
+/// Refusal 15 speaks of a supplier before all questions that is in force already, and then
+/// nothing behind it makes a difference, or that is not followed by a row's kind byte, and
+/// then nothing behind that byte does. Without it reading comes no less far: the answer is
+/// the bytes without it.
 pub(super) fn check_idle(
     desk: &mut Desk,
     random: &mut Random,
@@ -151,6 +158,8 @@ pub(super) fn check_idle(
 ) -> Vec<u8> {
     let (before, behind) = (&bytes[..place], &bytes[place + 2..]);
     assert_eq!(bytes[place], SUPPLIER, "no supplier at {place}: {bytes:02x?}");
+    let asks = |entry: &[u8]| Group::of(entry[0]).map(|group| group.part) == Some(Part::Questions);
+    assert!(!entries(before).any(asks), "behind a question: {bytes:02x?}");
     let repeats = bytes[place + 1] == in_force(before);
     let is_followed = behind.first().map_or(false, |&kind| is_row(kind));
     assert!(repeats || !is_followed, "not idle at {place}: {bytes:02x?}");
