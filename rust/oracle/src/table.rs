@@ -52,7 +52,9 @@ impl Kind {
     /// The byte of a supplier.
     pub const SUPPLIER: u8 = 0x60;
 
-    /// The kind that `byte` stands for, if it is listed.
+    /// The kind that `byte` stands for, if it is listed. This is asked of every entry, and
+    /// the benchmark times it, so no call is made for it.
+    #[inline(always)]
     pub fn of(byte: u8) -> Option<Kind> {
         Some(match byte {
             0x00 => Kind::Always(Decision::U),
@@ -162,8 +164,8 @@ pub enum Question {
 pub struct Table {
     pub constraints: Vec<Constraint>,
     pub rows: Vec<Row>,
-    /// The supplier of each row.
-    pub suppliers: Vec<u8>,
+    /// The supplier of each row, and 0 behind the last.
+    pub suppliers: [u8; ROWS],
     pub questions: Vec<Question>,
     /// The supplier in force, which the next row gets.
     supplier: u8,
@@ -174,7 +176,7 @@ impl Table {
         Table {
             constraints: Vec::with_capacity(CONSTRAINTS),
             rows: Vec::with_capacity(ROWS),
-            suppliers: Vec::with_capacity(ROWS),
+            suppliers: [0; ROWS],
             questions: Vec::with_capacity(QUESTIONS),
             supplier: 0,
         }
@@ -236,7 +238,9 @@ impl Table {
     /// May this supplier be named before what the next byte, if there is one, announces?
     ///
     /// Document 02, L6: "15, a 60 that repeats the supplier in force or is not followed by a
-    /// row's kind byte, at the 60, after 2".
+    /// row's kind byte, at the 60, after 2". It is kept apart from the reading of other
+    /// entries, which would take longer for it.
+    #[inline(never)]
     fn check_supplier(&self, supplier: u8, next: Option<&u8>) -> Result<(), u32> {
         let announced = next.and_then(|&byte| Kind::of(byte)).map(Kind::part);
         if supplier == self.supplier || announced != Some(Part::Rows) {
@@ -248,8 +252,8 @@ impl Table {
 
     /// Adds a row, which gets the supplier in force.
     fn add_row(&mut self, row: Row) {
+        self.suppliers[self.rows.len()] = self.supplier;
         self.rows.push(row);
-        self.suppliers.push(self.supplier);
     }
 
     /// Adds the entry of this kind and body, of the kind's length.
