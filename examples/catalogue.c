@@ -1,7 +1,7 @@
 /*
  * Reads a rule table from the file that the command line names, decides a
  * request over it, asks its questions, and shows its text; then strikes rows from
- * a second table.
+ * a second table, and from a third, of which it shows whose rows each row rests on.
  */
 #include <stdio.h>
 #include <string.h>
@@ -104,6 +104,24 @@ static void strike(const uint8_t *table, size_t length, uint32_t row)
     }
 }
 
+/* Prints whose rows each row of a table rests on. */
+static void show_suppliers(const uint8_t *table, size_t length)
+{
+    uint8_t list[PIER_SUPPLIERS];
+    uint32_t row, rows = pier_read(table, length).rows;
+    for (row = 0; row < rows; row++) {
+        pier_written written = pier_suppliers(table, length, row, list, sizeof list);
+        if (!refused(written.refusal, written.place)) {
+            size_t i;
+            printf("row %lu rests on suppliers", (unsigned long)row);
+            for (i = 0; i < written.length; i++) {
+                printf(" %d", list[i]);
+            }
+            printf("\n");
+        }
+    }
+}
+
 /* Prints the text of a table, and whether reading it gives the table's bytes back. */
 static void show_text(const uint8_t *table, size_t length)
 {
@@ -140,6 +158,9 @@ static int show_table(const uint8_t *table, size_t length)
 int main(int argc, char **argv)
 {
     static const uint8_t second[] = {0x00, 0x02, 0x20, 0x01, 0x40, 0x01, 0x02};
+    /* supplier 7's row, supplier 3's, and supplier 7's again, which joins them; then one of 0's */
+    static const uint8_t third[] = {0x60, 0x07, 0x11, 0x00, 0x60, 0x03, 0x10, 0x01,
+                                    0x60, 0x07, 0x33, 0x00, 0x01, 0x60, 0x00, 0x20, 0x02};
     uint8_t table[MOST_BYTES];
     size_t length;
     FILE *file;
@@ -156,5 +177,7 @@ int main(int argc, char **argv)
     }
     strike(second, sizeof second, 0);
     strike(second, sizeof second, 1);
+    show_suppliers(third, sizeof third);
+    strike(third, sizeof third, 3);
     return 0;
 }

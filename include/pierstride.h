@@ -2,7 +2,9 @@
  * Pierstride: rule tables over four decisions.
  *
  * A table is a byte string: a run of constraints, which say what requests can
- * occur, then a run of rows, then a run of questions about them. Each call takes
+ * occur, then a run of rows, then a run of questions about them. Among the rows
+ * suppliers may stand: the entry 60 and a byte says that the rows behind it are that
+ * supplier's, up to the next 60; before any, rows are supplier 0's. Each call takes
  * the whole table and reads it first. Nothing is kept between calls. A table also
  * has a text, one line an entry, for people to read and to write: pier_to_text
  * and pier_from_text turn one into the other.
@@ -32,7 +34,7 @@ extern "C" {
 
 /*
  * The refusals; those of a call on a table stand in the order in which they are
- * looked for. The first eight are those of reading, which every such call may
+ * looked for. The first nine are those of reading, which every such call may
  * give: they are looked for entry by entry from the front, so the first bad entry
  * speaks. The others speak of what was asked. A refusal changes no byte of any
  * slice.
@@ -57,12 +59,14 @@ extern "C" {
 enum {
     PIER_NO_REFUSAL = 0,
     PIER_KIND_NOT_LISTED = 1,       /* entry: its kind is not listed */
-    PIER_OUT_OF_ORDER = 5,          /* entry: it is a row after a question, or a constraint
-                                       after a row or question */
+    PIER_OUT_OF_ORDER = 5,          /* entry: it is a row or supplier after a question, or a
+                                       constraint after a row or question */
     PIER_TOO_MANY_ROWS = 6,         /* entry: it is a 257th row */
     PIER_TOO_MANY_QUESTIONS = 7,    /* entry: it is a 65th question */
     PIER_TOO_MANY_CONSTRAINTS = 14, /* entry: it is a 33rd constraint */
     PIER_BODY_CUT_SHORT = 2,        /* entry: its body is cut short */
+    PIER_IDLE_SUPPLIER = 15,        /* entry: it names the supplier in force, or the next byte is
+                                       not a row's kind byte */
     PIER_PREDICATE_ABOVE_23 = 3,    /* number: it is a predicate above 23 */
     PIER_MAY_NOT_BE_NAMED = 4,      /* number: it may not be named there */
     PIER_NOT_THERE = 8,             /* none: the row or question asked for is not there */
@@ -95,15 +99,21 @@ enum {
    long texts). */
 enum { PIER_STACK_BYTES = 32 * 1024 };
 
-/* No table has more bytes. */
-enum { PIER_TABLE_BYTES = 1056 };
+/*
+ * No table has more bytes: 32 constraints, 256 rows and 64 questions have at most three
+ * each, and a supplier before each row has two.
+ */
+enum { PIER_TABLE_BYTES = 1568 };
 
 /*
- * No table has a longer text: so many bytes has that of 32 constraints, 256 rows and
- * 64 questions, each with the longest word and the highest numbers that can stand
- * there.
+ * No table has a longer text: so many bytes has that of 32 constraints, 256 rows with a
+ * supplier before each, and 64 questions, each with the longest word and the highest
+ * numbers that can stand there.
  */
-enum { PIER_TEXT_BYTES = 9651 };
+enum { PIER_TEXT_BYTES = 12979 };
+
+/* There are no more suppliers, 0 to 255, and so no list of them is longer. */
+enum { PIER_SUPPLIERS = 256 };
 
 /*
  * Every answer begins with the refusal and its place, PIER_NO_REFUSAL and 0 if
@@ -146,7 +156,8 @@ typedef struct {
     uint32_t visits;  /* the count of visits; PIER_UNFINISHED: the budget */
 } pier_verdict_reply;
 
-/* What every call that writes answers: pier_strike, pier_to_text and pier_from_text. */
+/* What every call that writes answers: pier_strike, pier_suppliers, pier_to_text and
+   pier_from_text. */
 typedef struct {
     uint32_t refusal;
     size_t place;
@@ -210,8 +221,10 @@ pier_verdict_reply pier_verdict(const uint8_t *table, size_t table_len, uint32_t
  * Writes the table without a row to the front of `out`, each row number above
  * that row lowered by one wherever it occurs, constraints and question numbers
  * unchanged. Every other row decides as before under its new number, and every
- * question keeps its reply, request and count. The bytes of `out` behind those
- * written keep what they had. `table_len` bytes are always enough.
+ * question keeps its reply, request and count. Every other row keeps its supplier,
+ * too: one is named just where it changes, so fewer may be named than before. The
+ * bytes of `out` behind those written keep what they had. `table_len` bytes are always
+ * enough.
  *
  * Refusals: those of reading; PIER_NOT_THERE; PIER_ROW_IS_NAMED;
  * PIER_OUTPUT_TOO_SHORT.
@@ -220,21 +233,33 @@ pier_written pier_strike(const uint8_t *table, size_t table_len, uint32_t row, u
                          size_t out_len);
 
 /*
- * Answers where in the table the bytes of a row lie, from its kind byte on. On a
- * refusal the part is empty.
+ * Answers where in the table the bytes of a row lie, from its kind byte on: a
+ * supplier before it is no part of them. On a refusal the part is empty.
  *
  * Refusals: those of reading; PIER_NOT_THERE.
  */
 pier_part pier_entry(const uint8_t *table, size_t table_len, uint32_t row);
 
 /*
+ * Writes the suppliers of all rows that a row reaches to the front of `out`, one byte
+ * each, each once, by rising numbers; the length is how many they are. A row reaches
+ * itself, the rows that it names, and all that these reach. The bytes of `out` behind
+ * those written keep what they had. PIER_SUPPLIERS bytes are always enough.
+ *
+ * Refusals: those of reading; PIER_NOT_THERE; PIER_OUTPUT_TOO_SHORT.
+ */
+pier_written pier_suppliers(const uint8_t *table, size_t table_len, uint32_t row, uint8_t *out,
+                            size_t out_len);
+
+/*
  * Writes the text of a table to the front of `out`. It has one line for each
  * entry, in their order: the word for its kind, its numbers in decimal with a
  * single space before each, and a line feed. So row r of a table with c
- * constraints is on line c + r + 1. docs/WORDS.md lists the words. Every accepted
- * table has exactly one text, and pier_from_text reads that as the same bytes. No
- * byte of 0 ends it. The bytes of `out` behind those written keep what they had.
- * PIER_TEXT_BYTES bytes are always enough.
+ * constraints is on line c + r + 1, and one line further down for each supplier that
+ * is named before it. docs/WORDS.md lists the words. Every accepted table has exactly
+ * one text, and pier_from_text reads that as the same bytes. No byte of 0 ends it. The
+ * bytes of `out` behind those written keep what they had. PIER_TEXT_BYTES bytes are
+ * always enough.
  *
  * Refusals: those of reading; PIER_OUTPUT_TOO_SHORT.
  */

@@ -9,8 +9,9 @@ use std::time::{Duration, Instant};
 
 use pierstride::Verdict;
 use pierstride_oracle::random::Random;
+use pierstride_oracle::supplied::with_suppliers;
 use pierstride_oracle::tables::{self, Shape};
-use pierstride_oracle::{crafted, texts, ROWS};
+use pierstride_oracle::{crafted, suppliers_by_marks, texts, ROWS, SUPPLIERS};
 
 const SEED: u64 = 1;
 const BATCHES: usize = 5;
@@ -22,6 +23,9 @@ const VISITS: u32 = (2 << PREDICATES) - 1;
 
 /// How many lines the long texts have.
 const LINES: [usize; 2] = [1000, 1_000_000];
+
+/// Of which rows suppliers are listed, in tables of 256 rows.
+const LISTED: [u32; 5] = [0, 15, 63, 127, 255];
 
 const YES: u32 = 0b0101_0101_0101_0101;
 const KNOWN: u32 = 0b0000_1111_1111_0000;
@@ -36,6 +40,7 @@ fn main() {
         "A walk makes {VISITS} visits and is given per visit, without constraints and with 32 of \
          which none is ever broken."
     );
+    println!("Seven of eight rows have another supplier than the row before, where it says so.");
     println!();
     println!("rows  bytes  call                    library ns      Rust ns  library/Rust");
     for rows in [16, 64, ROWS] {
@@ -44,8 +49,22 @@ fn main() {
         time_walk("walk, a visit", rows, &table);
         let constraints = crafted::idle_constraints(PREDICATES);
         time_walk("walk, 32 constraints", rows, &[constraints, table.clone()].concat());
-        time_calls_that_write(rows, &table);
+        time_calls_that_write("", rows, &table);
+        let supplied = supplied(rows, &table);
+        time_reading("read, suppliers", rows, &supplied);
+        time_list(rows, &supplied);
+        time_calls_that_write(", suppliers", rows, &supplied);
     }
+    println!();
+    println!(
+        "The list of a row's suppliers in tables of {ROWS} rows: in a chain each row names the"
+    );
+    println!("one before it, on a ladder the two before it, and on steps two about halfway down.");
+    println!();
+    println!(" row  suppliers  table    library ns   Rust ns  library/Rust");
+    time_lists("chain", &crafted::chain_of_rows(ROWS));
+    time_lists("ladder", &crafted::ladder_of_rows(ROWS));
+    time_lists("steps", &crafted::steps_of_rows(ROWS));
     println!();
     println!("A text with more lines than a table may have is read to its end before it is");
     println!("refused, and is given per line.");
@@ -77,6 +96,12 @@ fn table(rows: usize) -> Vec<u8> {
     bytes
 }
 
+/// The table with another supplier for seven of eight rows than for the row before.
+fn supplied(rows: usize, table: &[u8]) -> Vec<u8> {
+    let suppliers: Vec<u8> = (0..rows).map(|row| (row % 8).max(1) as u8).collect();
+    with_suppliers(table, &suppliers)
+}
+
 /// One line for a call on a table: the library's time, the oracle's, and their ratio.
 fn reporter(rows: usize, table: &[u8]) -> impl Fn(&str, f64, f64) {
     let bytes = table.len();
@@ -92,14 +117,7 @@ fn time_calls(rows: usize, table: &[u8]) {
     let row = (rows - LAST_ROWS) as u32 - 1;
     let (known, yes) = (KNOWN, KNOWN & YES);
     let report = reporter(rows, table);
-    report(
-        "read",
-        time(|| pierstride::read(hide(table))),
-        time(|| {
-            let read = pierstride_oracle::read(hide(table));
-            read.map(|table| (table.rows.len(), table.questions.len(), table.predicates()))
-        }),
-    );
+    time_reading("read", rows, table);
     report(
         "decide",
         time(|| pierstride::decide(hide(table), row, YES)),
@@ -112,6 +130,43 @@ fn time_calls(rows: usize, table: &[u8]) {
     );
 }
 
+fn time_reading(call: &str, rows: usize, table: &[u8]) {
+    reporter(rows, table)(
+        call,
+        time(|| pierstride::read(hide(table))),
+        time(|| {
+            let read = pierstride_oracle::read(hide(table));
+            read.map(|table| (table.rows.len(), table.questions.len(), table.predicates()))
+        }),
+    );
+}
+
+fn time_list(rows: usize, table: &[u8]) {
+    let (library, oracle) = times_of_list(rows as u32 - 1, table);
+    reporter(rows, table)("list of suppliers", library, oracle);
+}
+
+/// The times that the list of a row's suppliers takes.
+fn times_of_list(row: u32, table: &[u8]) -> (f64, f64) {
+    let (mut out, mut oracle_out) = ([0; SUPPLIERS], [0; SUPPLIERS]);
+    (
+        time(|| pierstride::suppliers(hide(table), row, hide(&mut out[..]))),
+        time(|| suppliers_by_marks(hide(table), row, hide(&mut oracle_out[..]))),
+    )
+}
+
+/// Times the lists of some rows.
+fn time_lists(name: &str, table: &[u8]) {
+    for row in LISTED {
+        let count = suppliers_by_marks(table, row, &mut [0; SUPPLIERS]).expect("a row");
+        let (library, oracle) = times_of_list(row, table);
+        println!(
+            "{row:>4}  {count:>9}  {name:<7}  {library:>10.1}  {oracle:>8.1}  {:>12.2}",
+            library / oracle
+        );
+    }
+}
+
 fn time_walk(call: &str, rows: usize, table: &[u8]) {
     let verdict = pierstride::verdict(table, 0, VISITS);
     assert_eq!(verdict, Ok(Verdict::Holds { visits: VISITS }), "a walk that makes every visit");
@@ -122,7 +177,8 @@ fn time_walk(call: &str, rows: usize, table: &[u8]) {
     );
 }
 
-fn time_calls_that_write(rows: usize, table: &[u8]) {
+/// Times the calls that write a table or a text; what the table has stands behind their names.
+fn time_calls_that_write(has: &str, rows: usize, table: &[u8]) {
     let text = texts::spelling(table);
     let (mut out, mut oracle_out) = (vec![0; text.len()], vec![0; text.len()]);
     let struck = (0..rows as u32)
@@ -130,17 +186,17 @@ fn time_calls_that_write(rows: usize, table: &[u8]) {
         .expect("a row that no entry names");
     let report = reporter(rows, table);
     report(
-        "strike",
+        &format!("strike{has}"),
         time(|| pierstride::strike(hide(table), struck, hide(&mut out))),
         time(|| pierstride_oracle::strike(hide(table), struck, hide(&mut oracle_out))),
     );
     report(
-        "to text",
+        &format!("to text{has}"),
         time(|| pierstride::to_text(hide(table), hide(&mut out))),
         time(|| pierstride_oracle::to_text(hide(table), hide(&mut oracle_out))),
     );
     report(
-        "from text",
+        &format!("from text{has}"),
         time(|| pierstride::from_text(hide(&text), hide(&mut out))),
         time(|| pierstride_oracle::from_text(hide(&text), hide(&mut oracle_out))),
     );

@@ -8,6 +8,8 @@ pub enum Numbered {
     Predicate,
     Row,
     Question,
+    /// Whoever lent some rows: every number from 0 to 255 is one.
+    Supplier,
 }
 
 impl fmt::Display for Numbered {
@@ -16,16 +18,19 @@ impl fmt::Display for Numbered {
             Numbered::Predicate => "predicate",
             Numbered::Row => "row",
             Numbered::Question => "question",
+            Numbered::Supplier => "supplier",
         })
     }
 }
 
 /// The part of a table that an entry stands in: first come all constraints, then all rows,
-/// then all questions.
+/// then all questions. Suppliers stand among the rows.
 #[derive(Clone, Copy, Debug, PartialEq, Eq)]
 pub enum Part {
     /// These have no numbers.
     Constraints,
+    /// Nor have these. Each stands before a row and says whose the rows from there on are.
+    Suppliers,
     Rows,
     Questions,
 }
@@ -35,6 +40,7 @@ impl Part {
     pub fn entry(self) -> &'static str {
         match self {
             Part::Constraints => "constraint",
+            Part::Suppliers => "supplier",
             Part::Rows => "row",
             Part::Questions => "question",
         }
@@ -59,6 +65,10 @@ impl Kind {
         Kind { byte, word, part: Part::Constraints, names }
     }
 
+    const fn supplier(byte: u8, word: &'static str, names: &'static [Numbered]) -> Kind {
+        Kind { byte, word, part: Part::Suppliers, names }
+    }
+
     const fn row(byte: u8, word: &'static str, names: &'static [Numbered]) -> Kind {
         Kind { byte, word, part: Part::Rows, names }
     }
@@ -78,7 +88,7 @@ impl Kind {
     }
 }
 
-use Numbered::{Predicate, Question, Row};
+use Numbered::{Predicate, Question, Row, Supplier};
 
 /// Every kind, by rising bytes. That these are the library's is tested, not proved.
 pub static KINDS: &[Kind] = &[
@@ -108,4 +118,5 @@ pub static KINDS: &[Kind] = &[
     Kind::question(0x43, "both", &[Question, Question]),
     Kind::constraint(0x50, "never-both", &[Predicate, Predicate]),
     Kind::constraint(0x51, "only-if", &[Predicate, Predicate]),
+    Kind::supplier(0x60, "supplier", &[Supplier]),
 ];

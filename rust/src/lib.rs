@@ -1,10 +1,11 @@
 //! Rule tables over four decisions: grant, deny, conflict and unspecified.
 //!
 //! A table is a byte string: a run of constraints, which say what requests can occur,
-//! then a run of rows, then a run of questions about them. Each function takes the
-//! whole table and reads it first; nothing is kept between calls, and any thread may
-//! call. Every byte string and every number brings an answer or a [`Refusal`], so
-//! nothing need be checked beforehand.
+//! then a run of rows, then a run of questions about them. Among the rows suppliers may
+//! stand, which say whose the rows behind them are. Each function takes the whole table
+//! and reads it first; nothing is kept between calls, and any thread may call. Every byte
+//! string and every number brings an answer or a [`Refusal`], so nothing need be checked
+//! beforehand.
 //! A table also has a text, one line an entry: [`to_text`] writes it, and
 //! [`from_text`] reads any text, with an answer or a [`TextRefusal`].
 //!
@@ -50,9 +51,9 @@ macro_rules! refusals {
     )*) => {
         /// Why a call was not answered.
         ///
-        /// Refusals 1 to 7 and 14 are those of reading and speak of the first bad entry
-        /// of the table. Of these, 3 and 4 give the place of a number: the first in the
-        /// entry's body that is not below its limit. The others give the place of
+        /// Refusals 1 to 7, 14 and 15 are those of reading and speak of the first bad
+        /// entry of the table. Of these, 3 and 4 give the place of a number: the first in
+        /// the entry's body that is not below its limit. The others give the place of
         /// the entry, which is that of its kind byte. Refusals 8 to 11 speak of what
         /// was asked, and their place is 0.
         ///
@@ -75,14 +76,15 @@ macro_rules! refusals {
         /// ```
         #[derive(Clone, Copy, Debug, PartialEq, Eq)]
         pub struct Refusal {
-            /// The number of the refusal: 1 to 11, or 14.
+            /// The number of the refusal: 1 to 11, 14 or 15.
             pub number: u32,
             /// Its place among the table's bytes, from 0; 0 if it points at nothing.
             pub place: usize,
         }
 
         impl Refusal {
-            /// Why, in words: with 1 to 7 and 14, what is said of what stands at the place.
+            /// Why, in words: with 1 to 7, 14 and 15, what is said of what stands at the
+            /// place.
             pub fn reason(&self) -> &'static str {
                 match self.number {
                     $($($number => $reason,)?)*
@@ -109,8 +111,8 @@ macro_rules! refusals {
         ///
         /// Refusals 12 and 13 speak of the first line that is not well spelled, and 13
         /// is given only if there is no cause for 12 on that line. If every line is
-        /// well spelled, 3 to 7 and 14 speak of the first line that is a bad entry of
-        /// the table. Refusal 11 comes last: the output is shorter than the bytes to
+        /// well spelled, 3 to 7, 14 and 15 speak of the first line that is a bad entry
+        /// of the table. Refusal 11 comes last: the output is shorter than the bytes to
         /// write. It speaks of no line.
         ///
         /// | Number | Given when, at the line |
@@ -128,7 +130,7 @@ macro_rules! refusals {
         /// ```
         #[derive(Clone, Copy, Debug, PartialEq, Eq)]
         pub struct TextRefusal {
-            /// The number of the refusal: 3 to 7, or 11 to 14.
+            /// The number of the refusal: 3 to 7, or 11 to 15.
             pub number: u32,
             /// The number of the line that it speaks of, from 1; 0 if of none.
             pub place: usize,
@@ -163,8 +165,9 @@ refusals! {
         | "the predicate is above 23";
     4: the number at place "may not be named there"
         | "it names a row or question that does not stand before it";
-    5: the entry at place "is a row after a question, or a constraint after a row or question"
-        | "it is a row after a question, or a constraint after a row or question";
+    5: the entry at place "is a row or supplier after a question, or a constraint after a row or \
+                           question"
+        | "it is a row or supplier after a question, or a constraint after a row or question";
     6: the entry at place "is a 257th row"
         | "it is a 257th row";
     7: the entry at place "is a 65th question"
@@ -178,6 +181,8 @@ refusals! {
            space before each, no leading zero, and a line feed at the end)";
     14: the entry at place "is a 33rd constraint"
         | "it is a 33rd constraint";
+    15: the entry at place "names the supplier in force, or no row follows it"
+        | "it names the supplier in force, or no row follows it";
 }
 
 impl std::error::Error for Refusal {}
@@ -190,11 +195,15 @@ pub const PREDICATES: u32 = 24;
 /// So many constraints a table may have, of both kinds together.
 pub const CONSTRAINTS: u32 = 32;
 
+/// So many suppliers there are: 0 to 255. So many bytes are always enough for a list of
+/// them.
+pub const SUPPLIERS: usize = 256;
+
 /// So many bytes are always enough for a table.
-pub const TABLE_BYTES: usize = 1056;
+pub const TABLE_BYTES: usize = 1568;
 
 /// So many bytes are always enough for the text of a table.
-pub const TEXT_BYTES: usize = 9651;
+pub const TEXT_BYTES: usize = 12_979;
 
 /// What a table consists of.
 #[derive(Clone, Copy, Debug, PartialEq, Eq)]
@@ -305,7 +314,7 @@ fn accepted(number: u32, place: usize) -> Result<(), Refusal> {
 ///
 /// # Errors
 ///
-/// Refusals 1 to 7 and 14, for the first bad entry of the table.
+/// Refusals 1 to 7, 14 and 15, for the first bad entry of the table.
 pub fn read(table: &[u8]) -> Result<Counts, Refusal> {
     // SAFETY: the pointer and the length are those of a slice.
     let reply = unsafe { raw::pier_read(table.as_ptr(), table.len()) };
@@ -319,7 +328,7 @@ pub fn read(table: &[u8]) -> Result<Counts, Refusal> {
 ///
 /// # Errors
 ///
-/// In this order: refusals 1 to 7 and 14, for the first bad entry of the table; 8, if
+/// In this order: refusals 1 to 7, 14 and 15, for the first bad entry of the table; 8, if
 /// there is no such row; 10, if `yes` has a bit above 23.
 pub fn decide(table: &[u8], row: u32, yes: u32) -> Result<Decision, Refusal> {
     // SAFETY: the pointer and the length are those of a slice.
@@ -339,7 +348,7 @@ pub fn decide(table: &[u8], row: u32, yes: u32) -> Result<Decision, Refusal> {
 ///
 /// # Errors
 ///
-/// In this order: refusals 1 to 7 and 14, for the first bad entry of the table; 8, if
+/// In this order: refusals 1 to 7, 14 and 15, for the first bad entry of the table; 8, if
 /// there is no such row; 10, if a mask has a bit above 23 or `yes` has a bit
 /// that `known` has not.
 pub fn possible(table: &[u8], row: u32, known: u32, yes: u32) -> Result<DecisionSet, Refusal> {
@@ -360,7 +369,7 @@ pub fn possible(table: &[u8], row: u32, known: u32, yes: u32) -> Result<Decision
 ///
 /// # Errors
 ///
-/// In this order: refusals 1 to 7 and 14, for the first bad entry of the table; 8, if
+/// In this order: refusals 1 to 7, 14 and 15, for the first bad entry of the table; 8, if
 /// there is no such question.
 pub fn verdict(table: &[u8], question: u32, budget: u32) -> Result<Verdict, Refusal> {
     // SAFETY: the pointer and the length are those of a slice.
@@ -380,13 +389,14 @@ pub fn verdict(table: &[u8], question: u32, budget: u32) -> Result<Verdict, Refu
 ///
 /// Each row number above `row` is lowered by one wherever it occurs, so every
 /// other row decides as before under its new number; constraints and question
-/// numbers stay, and every question keeps its verdict. The
-/// bytes of `out` behind those written keep what they had, and on a refusal all
-/// of them do.
+/// numbers stay, and every question keeps its verdict. Every other row keeps its
+/// supplier, which is named just where it changes: so fewer may be named than before.
+/// The bytes of `out` behind those written keep what they had, and on a refusal all
+/// of them do. As many bytes as the table has are always enough.
 ///
 /// # Errors
 ///
-/// In this order: refusals 1 to 7 and 14, for the first bad entry of the table; 8, if
+/// In this order: refusals 1 to 7, 14 and 15, for the first bad entry of the table; 8, if
 /// there is no such row; 9, if a row or a question names it; 11, if `out` is
 /// shorter than the bytes to write.
 pub fn strike(table: &[u8], row: u32, out: &mut [u8]) -> Result<usize, Refusal> {
@@ -399,11 +409,11 @@ pub fn strike(table: &[u8], row: u32, out: &mut [u8]) -> Result<usize, Refusal> 
 }
 
 /// Gives back the bytes of row `row`, from its kind byte on, as a part of the
-/// caller's table.
+/// caller's table. A supplier before the row is no part of them.
 ///
 /// # Errors
 ///
-/// In this order: refusals 1 to 7 and 14, for the first bad entry of the table; 8, if
+/// In this order: refusals 1 to 7, 14 and 15, for the first bad entry of the table; 8, if
 /// there is no such row.
 ///
 /// # Panics
@@ -417,14 +427,45 @@ pub fn entry(table: &[u8], row: u32) -> Result<&[u8], Refusal> {
     Ok(&table[reply.start..][..reply.length])
 }
 
+/// Writes the suppliers of all rows that row `row` reaches to the front of `out` and
+/// answers how many they are; [`SUPPLIERS`] bytes are always enough.
+///
+/// A row reaches itself, the rows that it names, and all that these reach. Each supplier
+/// is one byte and stands there once, by rising numbers. A row's supplier is the last
+/// that an entry 60 before it names, and 0 if there is none. The bytes of `out` behind
+/// those written keep what they had, and on a refusal all of them do.
+///
+/// ```
+/// // Row 0 is supplier 7's, row 1 supplier 3's; row 2, nobody's, is the join of these.
+/// let table = [0x60, 0x07, 0x11, 0x00, 0x60, 0x03, 0x10, 0x01, 0x60, 0x00, 0x33, 0x00, 0x01];
+/// let mut list = [0; pierstride::SUPPLIERS];
+/// let length = pierstride::suppliers(&table, 2, &mut list)?;
+/// assert_eq!(list[..length], [0, 3, 7]);
+/// # Ok::<(), pierstride::Refusal>(())
+/// ```
+///
+/// # Errors
+///
+/// In this order: refusals 1 to 7, 14 and 15, for the first bad entry of the table; 8, if
+/// there is no such row; 11, if `out` is shorter than the list.
+pub fn suppliers(table: &[u8], row: u32, out: &mut [u8]) -> Result<usize, Refusal> {
+    let (table, table_len) = (table.as_ptr(), table.len());
+    // SAFETY: the pointers and the lengths are those of two slices, which cannot
+    // overlap as one of them is borrowed mutably.
+    let reply = unsafe { raw::pier_suppliers(table, table_len, row, out.as_mut_ptr(), out.len()) };
+    accepted(reply.refusal, reply.place)?;
+    Ok(reply.length)
+}
+
 /// Writes the text of a table to the front of `out` and answers how many bytes that
 /// took; [`TEXT_BYTES`] are always enough.
 ///
 /// The text has one line for each entry, in their order: the word for its kind, its
 /// numbers in decimal with a single space before each, and a line feed. So row r of a
-/// table with c constraints is on line c + r + 1. Every accepted table has exactly one
-/// text, and [`from_text`] reads that as the same bytes. The bytes of `out` behind those
-/// written keep what they had, and on a refusal all of them do.
+/// table with c constraints is on line c + r + 1, and one line further down for each
+/// supplier that is named before it. Every accepted table has exactly one text, and
+/// [`from_text`] reads that as the same bytes. The bytes of `out` behind those written
+/// keep what they had, and on a refusal all of them do.
 ///
 /// ```
 /// let table = [0x11, 0x05, 0x20, 0x00, 0x40, 0x00, 0x01];
@@ -436,7 +477,7 @@ pub fn entry(table: &[u8], row: u32) -> Result<&[u8], Refusal> {
 ///
 /// # Errors
 ///
-/// In this order: refusals 1 to 7 and 14, for the first bad entry of the table; 11, if
+/// In this order: refusals 1 to 7, 14 and 15, for the first bad entry of the table; 11, if
 /// `out` is shorter than the bytes to write.
 pub fn to_text(table: &[u8], out: &mut [u8]) -> Result<usize, Refusal> {
     let (table, table_len) = (table.as_ptr(), table.len());
@@ -466,8 +507,8 @@ pub fn to_text(table: &[u8], out: &mut [u8]) -> Result<usize, Refusal> {
 /// # Errors
 ///
 /// In this order: refusals 12 and 13, for the first line that is not well spelled, 12
-/// before 13 on that line; 3 to 7 and 14, for the first line that is a bad entry of the
-/// table; 11, if `out` is shorter than the bytes to write.
+/// before 13 on that line; 3 to 7, 14 and 15, for the first line that is a bad entry of
+/// the table; 11, if `out` is shorter than the bytes to write.
 pub fn from_text(text: &[u8], out: &mut [u8]) -> Result<usize, TextRefusal> {
     let (text, text_len) = (text.as_ptr(), text.len());
     // SAFETY: the pointers and the lengths are those of two slices, which cannot

@@ -50,8 +50,8 @@ pub struct PierVerdictReply {
     pub visits: u32,
 }
 
-/// The reply of every function that writes: [`pier_strike`], [`pier_to_text`] and
-/// [`pier_from_text`].
+/// The reply of every function that writes: [`pier_strike`], [`pier_suppliers`],
+/// [`pier_to_text`] and [`pier_from_text`].
 #[repr(C)]
 #[derive(Clone, Copy, Debug)]
 pub struct PierWritten {
@@ -125,6 +125,11 @@ c_functions! {
 
     /// The C function behind [`entry`](crate::entry).
     fn pier_entry(table: *const u8, table_len: usize, row: u32) -> PierPart;
+
+    /// The C function behind [`suppliers`](crate::suppliers).
+    fn pier_suppliers(
+        table: *const u8, table_len: usize, row: u32, out: *mut u8, out_len: usize
+    ) -> PierWritten;
 
     /// The C function behind [`to_text`](crate::to_text).
     fn pier_to_text(

@@ -11,10 +11,11 @@ use std::time::{Duration, Instant, SystemTime, UNIX_EPOCH};
 
 use pierstride_oracle::call::{self, Answer, Call};
 use pierstride_oracle::calls::{random_call, reading_a_text};
+use pierstride_oracle::kinds::{COMPARISONS, SUPPLIER};
 use pierstride_oracle::random::Random;
 use pierstride_oracle::tables::{self, Mixture, Shape};
 use pierstride_oracle::{crafted, laws, limits, lines, texts};
-use pierstride_oracle::{Verdict, OF_READING, OF_READING_A_TEXT, PREDICATES};
+use pierstride_oracle::{Verdict, OF_READING, OF_READING_A_TEXT, PREDICATES, ROWS, SUPPLIERS};
 
 /// How many random calls each test makes; the laws and walks come on top.
 const RANDOM_CALLS: usize = 300_000;
@@ -65,6 +66,52 @@ fn agrees_on_every_chain() {
             }
             comparison.check_round_trip(&table);
         }
+    }
+}
+
+/// Rows that reach as many others as they can, and lists of every length.
+#[test]
+fn agrees_on_every_list_of_suppliers() {
+    let mut comparison = Comparison::default();
+    let tables = [crafted::chain_of_rows, crafted::ladder_of_rows, crafted::steps_of_rows];
+    for table in tables.map(|table| table(ROWS)) {
+        for row in 0..=ROWS as u32 {
+            for room in [0, row as usize, row as usize + 1, SUPPLIERS] {
+                comparison.compare(&table, Call::Suppliers { row, room });
+            }
+        }
+        comparison.check_round_trip(&table);
+    }
+}
+
+/// Every supplier, named or in force, before every byte and at the end.
+#[test]
+fn agrees_on_suppliers_before_every_byte() {
+    let mut random = Random::new(0x4C36);
+    let mut comparison = Comparison::default();
+    for supplier in 0..=u8::MAX {
+        for next in 0..=u8::MAX {
+            for before in [&[][..], &[SUPPLIER, 5, 0], &[0, COMPARISONS[0], 0, 0]] {
+                let table = [before, &[SUPPLIER, supplier, next, 0, 0]].concat();
+                comparison.compare(&table, Call::Read);
+                comparison.compare(&table, random_call(&mut random, &table));
+            }
+        }
+        comparison.check_reading(&mut random, &[SUPPLIER, supplier]);
+    }
+}
+
+/// Tables at every limit, with suppliers behind as many rows as there may be among them.
+#[test]
+fn agrees_on_tables_at_every_limit() {
+    let mut random = Random::new(0x4C37);
+    let mut comparison = Comparison::default();
+    for table in limits::tables() {
+        comparison.compare(&table, Call::Read);
+        (0..CALLS_PER_TABLE).for_each(|_| {
+            comparison.compare(&table, random_call(&mut random, &table));
+        });
+        comparison.check_reading(&mut random, &table);
     }
 }
 
@@ -276,13 +323,14 @@ fn every_answer() -> Vec<(&'static str, Vec<String>)> {
         numbers.map(|number| format!("{name} {number}")).collect()
     };
     let written = || vec!["written".to_string()];
-    let answers: [(_, Vec<String>, &[u32], &[u32]); 8] = [
+    let answers: [(_, Vec<String>, &[u32], &[u32]); 9] = [
         ("read", vec!["accepted".into()], &OF_READING, &[]),
         ("decide", numbered("code", 0..4), &OF_READING, &[8, 10]),
         ("possible", numbered("set", 1..16), &OF_READING, &[8, 10]),
         ("verdict", ["holds", "fails", "unfinished"].map(String::from).into(), &OF_READING, &[8]),
         ("strike", written(), &OF_READING, &[8, 9, 11]),
         ("entry", numbered("part of", 1..4), &OF_READING, &[8]),
+        ("suppliers", written(), &OF_READING, &[8, 11]),
         ("to text", written(), &OF_READING, &[11]),
         ("from text", written(), &OF_READING_A_TEXT, &[11]),
     ];

@@ -8,9 +8,10 @@ use pierstride::{read, verdict, Kind, Numbered, Part, Verdict, KINDS};
 const PAGE: &str = include_str!("../../docs/WORDS.md");
 const TABLE_A: &str = include_str!("../../examples/table-a.txt");
 
-/// Nothing, two rows, and two rows and a question: what stands before an entry whose kind is
-/// tried.
+/// Nothing, a row, two rows, and two rows and a question: what stands before an entry whose
+/// kind is tried, or behind it.
 const NOTHING: &[u8] = &[];
+const ROW: &[u8] = &[0x00];
 const ROWS: &[u8] = &[0x00, 0x00];
 const ROWS_AND_QUESTION: &[u8] = &[0x00, 0x00, 0x40, 0x00, 0x00];
 
@@ -18,25 +19,29 @@ const ROWS_AND_QUESTION: &[u8] = &[0x00, 0x00, 0x40, 0x00, 0x00];
 type Found = (String, Part, Vec<Numbered>);
 
 /// Tries a kind as a constraint, which is not counted, then as a third row, then as a second
-/// question; none if it is nothing of these.
+/// question, then as a supplier, which is not counted and needs a row behind it; none if it is
+/// nothing of these. Before any supplier 0 is in force, so 1 is named.
 fn found(byte: u8) -> Option<Found> {
     let parts = [
-        (NOTHING, (0, 0), Part::Constraints),
-        (ROWS, (3, 0), Part::Rows),
-        (ROWS_AND_QUESTION, (2, 2), Part::Questions),
+        (NOTHING, 0, NOTHING, (0, 0), Part::Constraints),
+        (ROWS, 0, NOTHING, (3, 0), Part::Rows),
+        (ROWS_AND_QUESTION, 0, NOTHING, (2, 2), Part::Questions),
+        (NOTHING, 1, ROW, (1, 0), Part::Suppliers),
     ];
-    parts.into_iter().find_map(|(before, counts, part)| {
-        let tables = (0..=2).map(|count| [before, &[byte][..], &vec![0; count]].concat());
-        let table = tables.into_iter().find(|table| {
+    parts.into_iter().find_map(|(before, number, behind, counts, part)| {
+        let bodies = (0..=2).map(|count| vec![number; count]);
+        let table = bodies.map(|body| [before, &[byte], &body, behind].concat()).find(|table| {
             read(table).map_or(false, |found| (found.rows, found.questions) == counts)
         })?;
-        let names = (before.len() + 1..table.len()).map(|place| named(&table, place)).collect();
-        Some((word(&table), part, names))
+        let end = table.len() - behind.len();
+        let names = (before.len() + 1..end).map(|place| named(&table, place)).collect();
+        Some((word(&table, behind.len()), part, names))
     })
 }
 
 /// What the number at a place of an accepted table names. The number 24 is no predicate; of two
-/// rows and one question, 1 is a row and no question.
+/// rows and one question, 1 is a row and no question; and every number but that in force is a
+/// supplier.
 fn named(table: &[u8], place: usize) -> Numbered {
     let with = |number| {
         let mut table = table.to_vec();
@@ -47,16 +52,17 @@ fn named(table: &[u8], place: usize) -> Numbered {
         (0, 3, _) => Numbered::Predicate,
         (_, 4, 0) => Numbered::Row,
         (_, 4, 4) => Numbered::Question,
+        (0, 0, 0) => Numbered::Supplier,
         other => panic!("the number at {place} of {table:02x?}: {other:?}"),
     }
 }
 
-/// The word of a table's last line.
-fn word(table: &[u8]) -> String {
+/// The word of a table's last line, or of one so many before it.
+fn word(table: &[u8], behind: usize) -> String {
     let mut text = [0; pierstride::TEXT_BYTES];
     let length = pierstride::to_text(table, &mut text).expect("the table is accepted");
     let text = std::str::from_utf8(&text[..length]).expect("a text is ASCII");
-    let line = text.lines().last().expect("a line");
+    let line = text.lines().rev().nth(behind).expect("a line");
     line.split(' ').next().unwrap_or_default().to_owned()
 }
 
@@ -88,6 +94,18 @@ fn the_package_has_the_library_s_constraints() {
     let more = [&most[..], &[0x51]].concat();
     let refusal = read(&more).expect_err("a constraint too many");
     assert_eq!((refusal.number, refusal.place), (14, most.len()));
+}
+
+#[test]
+fn the_package_has_the_library_s_suppliers() {
+    let rows = (0..pierstride::SUPPLIERS).rev().flat_map(|supplier| match supplier {
+        255 => vec![0x60, 0xFF, 0x00],
+        _ => vec![0x60, supplier as u8, 0x20, 254 - supplier as u8],
+    });
+    let table: Vec<u8> = rows.collect();
+    let mut list = [0; pierstride::SUPPLIERS];
+    assert_eq!(pierstride::suppliers(&table, 255, &mut list), Ok(pierstride::SUPPLIERS));
+    assert!(list.into_iter().eq(0..=255));
 }
 
 #[test]
@@ -144,4 +162,22 @@ fn the_page_s_example_of_constraints_is_as_it_says() {
     let ask = |question| verdict(&table[..length], question, u32::MAX);
     assert!(matches!(ask(1), Ok(Verdict::Holds { .. })));
     assert!(matches!(ask(3), Ok(Verdict::Fails { request: 0b110, .. })));
+}
+
+#[test]
+fn the_page_s_example_of_suppliers_is_as_it_says() {
+    let heading = "## A worked example: whose rows are these?";
+    let (_, example) = PAGE.split_once(heading).expect("an example of suppliers");
+    let lines = example.lines().filter_map(|line| line.strip_prefix("    "));
+    let text: String = lines.take(9).map(|line| line.to_owned() + "\n").collect();
+    let mut table = [0; pierstride::TABLE_BYTES];
+    let length = pierstride::from_text(text.as_bytes(), &mut table).expect("a text");
+    let list = |row| {
+        let mut list = vec![0; pierstride::SUPPLIERS];
+        let count = pierstride::suppliers(&table[..length], row, &mut list);
+        list.truncate(count.expect("a row of the table"));
+        list
+    };
+    let lists: [&[u8]; 5] = [&[3], &[3], &[7], &[0, 3, 7], &[3]];
+    assert!((0..5).map(list).eq(lists));
 }

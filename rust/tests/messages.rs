@@ -3,7 +3,7 @@
 use pierstride::{Refusal, TextRefusal};
 
 /// The refusals of calls on a table.
-const OF_TABLES: [u32; 12] = [1, 2, 3, 4, 5, 6, 7, 8, 9, 10, 11, 14];
+const OF_TABLES: [u32; 13] = [1, 2, 3, 4, 5, 6, 7, 8, 9, 10, 11, 14, 15];
 
 fn message(number: u32, place: usize) -> String {
     Refusal { number, place }.to_string()
@@ -18,7 +18,7 @@ fn a_message_says_what_the_place_points_at() {
     for number in OF_TABLES {
         let pointed_at = match number {
             3 | 4 => "the number at place 120 ",
-            1..=7 | 14 => "the entry at place 120 ",
+            1..=7 | 14 | 15 => "the entry at place 120 ",
             _ => "",
         };
         let message = message(number, 120);
@@ -37,12 +37,17 @@ fn a_message_says_why() {
         (
             5,
             4,
-            "refused 5: the entry at place 4 is a row after a question, or a constraint after \
-             a row or question",
+            "refused 5: the entry at place 4 is a row or supplier after a question, or a \
+             constraint after a row or question",
         ),
         (7, 193, "refused 7: the entry at place 193 is a 65th question"),
         (9, 0, "refused 9: the row to strike is named by a row or question"),
         (14, 96, "refused 14: the entry at place 96 is a 33rd constraint"),
+        (
+            15,
+            3,
+            "refused 15: the entry at place 3 names the supplier in force, or no row follows it",
+        ),
     ];
     for (number, place, text) in expected {
         assert_eq!(message(number, place), text);
@@ -54,7 +59,7 @@ fn a_message_says_why() {
 
 #[test]
 fn a_text_s_message_speaks_of_the_line() {
-    for number in [3, 4, 5, 6, 7, 12, 13, 14] {
+    for number in [3, 4, 5, 6, 7, 12, 13, 14, 15] {
         let message = text_message(number, 120);
         assert!(message.starts_with(&format!("refused {number} at line 120: ")), "{message}");
         assert!(!message.contains(" place "), "{message}");
@@ -70,8 +75,8 @@ fn a_text_s_message_says_why() {
         (
             5,
             2,
-            "refused 5 at line 2: it is a row after a question, or a constraint after a row \
-             or question",
+            "refused 5 at line 2: it is a row or supplier after a question, or a constraint \
+             after a row or question",
         ),
         (7, 66, "refused 7 at line 66: it is a 65th question"),
         (11, 0, "refused 11: the output is shorter than the bytes to write"),
@@ -83,6 +88,7 @@ fn a_text_s_message_says_why() {
              takes, a single space before each, no leading zero, and a line feed at the end)",
         ),
         (14, 33, "refused 14 at line 33: it is a 33rd constraint"),
+        (15, 2, "refused 15 at line 2: it names the supplier in force, or no row follows it"),
     ];
     for (number, place, text) in expected {
         assert_eq!(text_message(number, place), text);

@@ -32,4 +32,5 @@ fn the_example_is_the_text_of_table_a() {
 fn so_many_bytes_are_always_enough() {
     assert_eq!(pierstride::TABLE_BYTES, pierstride_oracle::TABLE_BYTES);
     assert_eq!(pierstride::TEXT_BYTES, pierstride_oracle::TEXT_BYTES);
+    assert_eq!(pierstride::SUPPLIERS, pierstride_oracle::SUPPLIERS);
 }

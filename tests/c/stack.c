@@ -15,10 +15,18 @@
 
 #include "pierstride.h"
 
-enum { PAINT = 0xA5, CONSTRAINTS = 32, LAST_ROW = 255, LAST_QUESTION = 63 };
+enum { PAINT = 0xA5, CONSTRAINTS = 32, LAST_ROW = 255, LAST_QUESTION = 63, SUPPLIER = 0x60 };
 
-/* Where rows begin behind all constraints, the length of the longest table, and a little more. */
-enum { ROWS = 3 * CONSTRAINTS, LONGEST = PIER_TABLE_BYTES - 1, MOST_BYTES = LONGEST + 16 };
+/*
+ * Where rows begin behind all constraints, and where they end; there each but the first has
+ * three bytes and a supplier before it. The length of the longest table, and a little more.
+ */
+enum {
+    ROWS = 3 * CONSTRAINTS,
+    ROWS_END = ROWS + 5 * (LAST_ROW + 1) - 1,
+    LONGEST = PIER_TABLE_BYTES - 1,
+    MOST_BYTES = LONGEST + 16
+};
 
 /* Enough visits to come to the walk's depth, and many more. */
 enum { VISITS = 1000, MANY_VISITS = 100000 };
@@ -32,12 +40,12 @@ typedef struct {
 enum { LONG_TEXT = 1 << 20 };
 
 typedef enum {
-    READ, DECIDE, POSSIBLE, VERDICT, STRIKE, ENTRY, TO_TEXT, FROM_TEXT, SERVICES
+    READ, DECIDE, POSSIBLE, VERDICT, STRIKE, ENTRY, LIST, TO_TEXT, FROM_TEXT, SERVICES
 } service;
 
-static const char *const NAMES[SERVICES] = {"pier_read",    "pier_decide",   "pier_possible",
-                                            "pier_verdict", "pier_strike",   "pier_entry",
-                                            "pier_to_text", "pier_from_text"};
+static const char *const NAMES[SERVICES] = {"pier_read",      "pier_decide",  "pier_possible",
+                                            "pier_verdict",   "pier_strike",  "pier_entry",
+                                            "pier_suppliers", "pier_to_text", "pier_from_text"};
 
 /* The call to make, and the refusal that it brought. */
 static struct {
@@ -78,6 +86,9 @@ static void make_call(void)
         break;
     case ENTRY:
         call.refusal = pier_entry(bytes, length, call.number).refusal;
+        break;
+    case LIST:
+        call.refusal = pier_suppliers(bytes, length, call.number, out, call.room).refusal;
         break;
     case TO_TEXT:
         call.refusal = pier_to_text(bytes, length, out, call.room).refusal;
@@ -138,6 +149,13 @@ static void add(table *table, unsigned kind, unsigned first, unsigned second)
     table->bytes[table->length++] = (uint8_t)second;
 }
 
+/* A supplier, to stand before a row. */
+static void add_supplier(table *table, unsigned supplier)
+{
+    table->bytes[table->length++] = SUPPLIER;
+    table->bytes[table->length++] = (uint8_t)supplier;
+}
+
 /* As many constraints as there may be, all of this kind and these predicates. */
 static table constrained(unsigned kind, unsigned first, unsigned second)
 {
@@ -150,20 +168,23 @@ static table constrained(unsigned kind, unsigned first, unsigned second)
 }
 
 /*
- * The longest table, 1055 bytes: row 0 grants if predicate 23, and every other row
+ * The longest table, 1567 bytes: row 0 grants if predicate 23, and every other row
  * and question stays open until row 0 is known, so the walk goes 25 visits deep. Each
  * names the one before it; the questions begin at row `asked`, which is compared with
  * the one before it, since a row against itself would be settled at the root. The
- * constraints forbid a request that the walk comes to late.
+ * constraints forbid a request that the walk comes to late. Every row has a supplier of
+ * its own, so the last row's list has them all.
  */
 static table longest(unsigned asked)
 {
     static const uint8_t kinds[] = {0x30, 0x31, 0x32, 0x33, 0x35, 0x38, 0x39, 0x3A, 0x3B};
     table table = constrained(0x50, 0, 1);
     unsigned i;
+    add_supplier(&table, LAST_ROW);
     table.bytes[table.length++] = 0x11;
     table.bytes[table.length++] = 23;
     for (i = 1; i <= LAST_ROW; i++) {
+        add_supplier(&table, LAST_ROW - i);
         add(&table, kinds[i % sizeof kinds], i - 1, i - 1);
     }
     add(&table, 0x40, asked, asked - 1);
@@ -186,14 +207,19 @@ static table waiting(void)
     return table;
 }
 
-/* The table with the longest text: the longest words, and the highest numbers. Its walks end at the root. */
+/*
+ * The table with the longest text: the longest words, and the highest numbers; before each row
+ * one of two suppliers. Its walks end at the root.
+ */
 static table wordiest(void)
 {
     table table = constrained(0x50, 23, 23);
     unsigned i;
+    add_supplier(&table, 255);
     table.bytes[table.length++] = 0x11;
     table.bytes[table.length++] = 23;
     for (i = 1; i <= LAST_ROW; i++) {
+        add_supplier(&table, 255 - i % 2);
         add(&table, 0x38, i - 1, i - 1);
     }
     for (i = 0; i <= LAST_QUESTION; i++) {
@@ -231,6 +257,8 @@ static void measure_all(const table *table)
         measure(STRIKE, table, numbers[i], 0, 0, 0);
         measure(STRIKE, table, numbers[i], 0, 0, MOST_BYTES);
         measure(ENTRY, table, numbers[i], 0, 0, 0);
+        measure(LIST, table, numbers[i], 0, 0, 0);
+        measure(LIST, table, numbers[i], 0, 0, PIER_SUPPLIERS);
     }
     measure(TO_TEXT, table, 0, 0, 0, 0);
     measure(TO_TEXT, table, 0, 0, 0, PIER_TEXT_BYTES);
@@ -308,11 +336,14 @@ int main(void)
         {PIER_KIND_NOT_LISTED, damaged(LONGEST, LONGEST - 3, 0x12)},
         {PIER_OUT_OF_ORDER, damaged(LONGEST + 3, LONGEST, 0x30)},
         {PIER_OUT_OF_ORDER, damaged(LONGEST + 3, LONGEST, 0x50)},
-        {PIER_TOO_MANY_ROWS, damaged(LONGEST, ROWS + 767, 0x30)},
+        {PIER_OUT_OF_ORDER, damaged(LONGEST + 3, LONGEST, SUPPLIER)},
+        {PIER_TOO_MANY_ROWS, damaged(LONGEST, ROWS_END, 0x30)},
         {PIER_TOO_MANY_QUESTIONS, damaged(LONGEST + 3, LONGEST, 0x40)},
         {PIER_TOO_MANY_CONSTRAINTS, damaged(LONGEST, ROWS, 0x51)},
         {PIER_BODY_CUT_SHORT, damaged(LONGEST - 1, LONGEST - 3, 0x43)},
-        {PIER_PREDICATE_ABOVE_23, damaged(LONGEST, ROWS + 764, 0x11)},
+        {PIER_IDLE_SUPPLIER, damaged(LONGEST, ROWS_END - 4, 1)},
+        {PIER_IDLE_SUPPLIER, damaged(LONGEST, ROWS_END - 3, 0x40)},
+        {PIER_PREDICATE_ABOVE_23, damaged(LONGEST, ROWS_END - 3, 0x11)},
         {PIER_PREDICATE_ABOVE_23, damaged(LONGEST, ROWS - 1, 24)},
         {PIER_MAY_NOT_BE_NAMED, damaged(LONGEST, LONGEST - 1, LAST_QUESTION)},
     };
@@ -336,6 +367,9 @@ int main(void)
             "the longest text reads as its table");
     require(measure(STRIKE, &free_row, LAST_ROW, 0, 0, MOST_BYTES) == PIER_NO_REFUSAL,
             "a row is struck from a full table");
+    require(measure(LIST, &open, LAST_ROW, 0, 0, PIER_SUPPLIERS) == PIER_NO_REFUSAL &&
+                measure(LIST, &open, LAST_ROW, 0, 0, PIER_SUPPLIERS - 1) == PIER_OUTPUT_TOO_SHORT,
+            "the last row of the longest table rests on every supplier's");
 
     measure(VERDICT, &open, LAST_QUESTION, MANY_VISITS, 0, 0);
     measure_all(&open);

@@ -5,7 +5,7 @@ use std::ops::Range;
 
 use crate::{Refusal, Verdict};
 
-/// One of the eight calls, with everything it takes beside its input. That is a
+/// One of the nine calls, with everything it takes beside its input. That is a
 /// text for `FromText` and a table for every other.
 #[derive(Clone, Copy, Debug)]
 pub enum Call {
@@ -32,6 +32,11 @@ pub enum Call {
         row: u32,
     },
     /// `room` is as for `Strike`.
+    Suppliers {
+        row: u32,
+        room: usize,
+    },
+    /// `room` is as for `Strike`.
     ToText {
         room: usize,
     },
@@ -50,6 +55,7 @@ impl Call {
             Call::Verdict { .. } => "verdict",
             Call::Strike { .. } => "strike",
             Call::Entry { .. } => "entry",
+            Call::Suppliers { .. } => "suppliers",
             Call::ToText { .. } => "to text",
             Call::FromText { .. } => "from text",
         }
@@ -135,6 +141,7 @@ fn try_answer(input: &[u8], call: Call) -> Result<Answer, Refusal> {
         }
         Call::Strike { row, room } => lend(room, |out| crate::strike(input, row, out))?,
         Call::Entry { row } => Answer::Entry(crate::entry(input, row)?),
+        Call::Suppliers { row, room } => lend(room, |out| crate::suppliers(input, row, out))?,
         Call::ToText { room } => lend(room, |out| crate::to_text(input, out))?,
         Call::FromText { room } => lend(room, |out| crate::from_text(input, out))?,
     })

@@ -2,14 +2,14 @@
 
 use crate::call::Call;
 use crate::random::Random;
-use crate::{entry, from_text, read, to_text, verdict, Verdict};
-use crate::{PREDICATES, QUESTIONS, ROWS, TABLE_BYTES, TEXT_BYTES};
+use crate::{from_text, read, strike, suppliers, to_text, verdict, Verdict};
+use crate::{PREDICATES, QUESTIONS, ROWS, SUPPLIERS, TABLE_BYTES, TEXT_BYTES};
 
 /// A random call that suits the table, whether that is accepted or not.
 pub fn random_call(random: &mut Random, table: &[u8]) -> Call {
     let (rows, questions) =
         read(table).map_or((0, 0), |table| (table.rows.len(), table.questions.len()));
-    match random.below(9) {
+    match random.below(11) {
         0 => Call::Read,
         1 | 2 => Call::Decide { row: around(random, rows), yes: yes_mask(random) },
         3 | 4 => {
@@ -24,12 +24,17 @@ pub fn random_call(random: &mut Random, table: &[u8]) -> Call {
         }
         6 => {
             let row = around(random, rows);
-            let need = entry(table, row).map_or(0, |part| table.len() - part.len());
+            let need = strike(table, row, &mut [0; TABLE_BYTES]).unwrap_or(0);
             Call::Strike { row, room: room(random, need, table.len()) }
         }
         7 => {
             let need = to_text(table, &mut [0; TEXT_BYTES]).unwrap_or(0);
             Call::ToText { room: room(random, need, TEXT_BYTES) }
+        }
+        8 | 9 => {
+            let row = around(random, rows);
+            let need = suppliers(table, row, &mut [0; SUPPLIERS]).unwrap_or(0);
+            Call::Suppliers { row, room: room(random, need, SUPPLIERS) }
         }
         _ => Call::Entry { row: around(random, rows) },
     }

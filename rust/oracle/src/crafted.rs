@@ -1,5 +1,6 @@
 //! Tables made for a purpose: walks of a known length, every set there is, constraints
-//! on predicates that a walk comes to, and the longest text.
+//! on predicates that a walk comes to, rows that reach as many others as they can, and the
+//! longest text.
 
 use crate::kinds::*;
 use crate::{CONSTRAINTS, PREDICATES, QUESTIONS, ROWS};
@@ -123,14 +124,49 @@ fn questions_on_every_set() -> Vec<u8> {
     bytes
 }
 
+/// A table of so many rows, of which each but the first negates the one before it; so
+/// every row reaches all before it, by one way.
+pub fn chain_of_rows(count: usize) -> Vec<u8> {
+    supplied_falling(count, |number| match number {
+        0 => vec![CONSTANTS[2]],
+        _ => vec![ON_ONE_ROW[0], number - 1],
+    })
+}
+
+/// A table of so many rows, of which each but the first two names both before it; so every
+/// row reaches all before it, by far more ways than could be followed one by one.
+pub fn ladder_of_rows(count: usize) -> Vec<u8> {
+    supplied_falling(count, |number| match number {
+        0 | 1 => vec![CONSTANTS[2]],
+        _ => vec![ON_TWO_ROWS[0], number - 1, number - 2],
+    })
+}
+
+/// A table of so many rows, of which each but the first two names two that stand next to
+/// each other about halfway down; so a row reaches few others, and none right before it.
+pub fn steps_of_rows(count: usize) -> Vec<u8> {
+    supplied_falling(count, |number| match number {
+        0 | 1 => vec![CONSTANTS[2]],
+        _ => vec![ON_TWO_ROWS[0], number / 2, number / 2 - 1],
+    })
+}
+
+/// A table of so many rows, of which each has a supplier of its own: 255 has row 0, and so
+/// on, falling.
+fn supplied_falling(count: usize, row: impl Fn(u8) -> Vec<u8>) -> Vec<u8> {
+    let supplied = |number| [vec![SUPPLIER, 255 - number], row(number)].concat();
+    (0..count).flat_map(|number| supplied(number as u8)).collect()
+}
+
 /// The table with the longest text: every entry has the longest word that it can
-/// have, and the highest numbers. The first row can name no row.
+/// have, and the highest numbers. The first row can name no row. Before each row stands a
+/// supplier of three digits, and next to each other two differ.
 pub fn longest_text() -> Vec<u8> {
     let mut bytes = [NEVER_BOTH, 23, 23].repeat(CONSTRAINTS);
-    bytes.extend([0x11, 23]);
+    bytes.extend([SUPPLIER, 255, 0x11, 23]);
     for number in 1..ROWS {
         let before = (number - 1) as u8;
-        bytes.extend([0x38, before, before]);
+        bytes.extend([SUPPLIER, 254 + before % 2, 0x38, before, before]);
     }
     bytes.extend([0x41, 255, 255].repeat(QUESTIONS));
     bytes

@@ -3,7 +3,7 @@
 //! alone.
 
 use crate::refusal::{MAY_NOT_BE_NAMED, PREDICATE_TOO_HIGH};
-use crate::{Part, PREDICATES};
+use crate::{Part, PREDICATES, SUPPLIERS};
 
 pub const CONSTANTS: [u8; 4] = [0x00, 0x01, 0x02, 0x03];
 pub const IF_PREDICATE: [u8; 2] = [0x10, 0x11];
@@ -15,6 +15,7 @@ pub const BOTH: u8 = 0x43;
 pub const NEVER_BOTH: u8 = 0x50;
 pub const ONLY_IF: u8 = 0x51;
 pub const ON_TWO_PREDICATES: [u8; 2] = [NEVER_BOTH, ONLY_IF];
+pub const SUPPLIER: u8 = 0x60;
 
 /// Kinds whose bodies are alike.
 #[derive(Clone, Copy, Debug)]
@@ -33,11 +34,12 @@ enum Named {
     Predicate,
     Row,
     Question,
+    Supplier,
 }
 
 /// Every listed kind.
 #[rustfmt::skip]
-pub const LISTED: [Group; 8] = [
+pub const LISTED: [Group; 9] = [
     Group { kinds: &CONSTANTS, part: Part::Rows, length: 0, names: Named::Row },
     Group { kinds: &IF_PREDICATE, part: Part::Rows, length: 1, names: Named::Predicate },
     Group { kinds: &ON_ONE_ROW, part: Part::Rows, length: 1, names: Named::Row },
@@ -46,13 +48,14 @@ pub const LISTED: [Group; 8] = [
     Group { kinds: &[NOT], part: Part::Questions, length: 1, names: Named::Question },
     Group { kinds: &[BOTH], part: Part::Questions, length: 2, names: Named::Question },
     Group { kinds: &ON_TWO_PREDICATES, part: Part::Constraints, length: 2, names: Named::Predicate },
+    Group { kinds: &[SUPPLIER], part: Part::Suppliers, length: 1, names: Named::Supplier },
 ];
 
 /// Declares the words from one list: each listed kind and the word for it.
 macro_rules! words {
     ($($kind:literal: $word:literal,)*) => {
         /// Every listed kind and its word.
-        pub const WORDS: [(u8, &[u8]); 26] = [$(($kind, $word)),*];
+        pub const WORDS: [(u8, &[u8]); 27] = [$(($kind, $word)),*];
 
         /// The word for a kind, if that is listed.
         pub fn word_of(kind: u8) -> Option<&'static [u8]> {
@@ -99,10 +102,12 @@ words! {
     0x43: b"both",
     0x50: b"never-both",
     0x51: b"only-if",
+    0x60: b"supplier",
 }
 
 /// Kinds that are not listed.
-pub const NOT_LISTED: [u8; 10] = [0x04, 0x0F, 0x12, 0x24, 0x36, 0x3C, 0x44, 0x4F, 0x52, 0xFF];
+pub const NOT_LISTED: [u8; 12] =
+    [0x04, 0x0F, 0x12, 0x24, 0x36, 0x3C, 0x44, 0x4F, 0x52, 0x5F, 0x61, 0xFF];
 
 impl Group {
     /// The group of a kind, if that is listed.
@@ -117,14 +122,16 @@ impl Group {
             Named::Predicate => PREDICATES,
             Named::Row => rows,
             Named::Question => questions,
+            Named::Supplier => SUPPLIERS,
         }
     }
 
-    /// The refusal of a number that is not below its limit.
-    pub fn refusal(self) -> u32 {
+    /// The refusal of a number that is not below its limit; none where every number is.
+    pub fn refusal(self) -> Option<u32> {
         match self.names {
-            Named::Predicate => PREDICATE_TOO_HIGH,
-            Named::Row | Named::Question => MAY_NOT_BE_NAMED,
+            Named::Predicate => Some(PREDICATE_TOO_HIGH),
+            Named::Row | Named::Question => Some(MAY_NOT_BE_NAMED),
+            Named::Supplier => None,
         }
     }
 }

@@ -8,13 +8,14 @@
 
 mod constraints;
 mod equal_numbers;
+mod suppliers;
 mod texts;
 
 pub use self::texts::{check_round_trip, check_text};
 
 use crate::call::{Answer, Call};
 use crate::calls::random_call;
-use crate::kinds::{Group, NOT_LISTED};
+use crate::kinds::{Group, NOT_LISTED, SUPPLIER};
 use crate::random::Random;
 use crate::refusal::{self, Refusal};
 use crate::tables::garbage;
@@ -33,6 +34,7 @@ pub fn check(answer: &mut dyn FnMut(&[u8], Call) -> Answer, random: &mut Random,
     check_strikes(&mut desk, &tried, random);
     constraints::check(&mut desk, &tried, random);
     equal_numbers::check(&mut desk, &tried, random);
+    suppliers::check(&mut desk, &tried, random);
 }
 
 /// Checks every law of reading on the answers that `answer` gives on any bytes.
@@ -52,6 +54,7 @@ pub fn check_reading(
             None => return,
         }
     }
+    suppliers::check_encoding(&bytes);
     check_spoilt(&mut desk, random, &bytes);
 }
 
@@ -260,27 +263,31 @@ struct Entry {
     group: Option<Group>,
     /// What each of its numbers must be below.
     limit: usize,
+    /// Whether a supplier stands right before it.
+    announced: bool,
 }
 
 impl Entry {
     /// The entry that `place` lies in: it starts at the last place up to which the
-    /// bytes are an accepted table.
+    /// bytes are an accepted table, or right behind a supplier that starts there.
     fn around(desk: &mut Desk, bytes: &[u8], place: usize) -> Entry {
         let (start, (rows, questions)) = (0..=place)
             .rev()
             .find_map(|start| Some((start, desk.read(&bytes[..start]).ok()?)))
             .expect("the empty table is accepted");
+        let announced = bytes[start] == SUPPLIER && place >= start + 2;
+        let start = if announced { start + 2 } else { start };
         let group = Group::of(bytes[start]);
         let end = start + 1 + group.map_or(0, |group| group.length);
         let limit = group.map_or(0, |group| group.limit(rows, questions));
-        Entry { start, end, group, limit }
+        Entry { start, end, group, limit, announced }
     }
 
     /// The refusal points into the body, at the first number that is not below its
     /// limit.
     fn check_number(&self, bytes: &[u8], refused: Refusal) {
         let Refusal { number, place } = refused;
-        assert_eq!(self.group.map(Group::refusal), Some(number), "{bytes:02x?}");
+        assert_eq!(self.group.and_then(Group::refusal), Some(number), "{bytes:02x?}");
         let within = self.start < place && place < self.end;
         assert!(within, "{refused:?} points outside the body: {bytes:02x?}");
         for at in self.start + 1..=place {
@@ -290,14 +297,15 @@ impl Entry {
     }
 }
 
-/// A refusal of reading speaks of one entry, and the bytes before that are an
-/// accepted table. Refusals 3 and 4 point at the first of its numbers that is not
-/// below its limit, the others at its kind byte. Unless its body is cut short, the
-/// bytes behind the entry change nothing, nor do its numbers behind that place.
-/// Every call passes the refusal on.
+/// A refusal of reading speaks of one entry, and the bytes before that, or before a
+/// supplier that announces it, are an accepted table. Refusals 3 and 4 point at the first of its numbers that is not
+/// below its limit, the others at its kind byte. Unless its body is cut short, or it is a
+/// supplier, the bytes behind the entry change nothing, nor do its numbers behind that
+/// place. Every call passes the refusal on.
 ///
-/// Once the number is put right, or the body filled up, reading comes further: the
-/// answer is the bytes with that done, if it can be.
+/// Once the number is put right, or the body filled up, reading comes further, or no less
+/// far once an idle supplier is taken out: the answer is the bytes with that done, if it
+/// can be.
 fn check_refusal(
     desk: &mut Desk,
     random: &mut Random,
@@ -318,6 +326,9 @@ fn check_refusal(
         assert_eq!(place, entry.start, "not the kind byte, {refused:?}: {bytes:02x?}");
     }
 
+    if number == refusal::IDLE_SUPPLIER {
+        return Some(suppliers::check_idle(desk, random, bytes, place));
+    }
     let mut mended = bytes.to_vec();
     if number == refusal::BODY_CUT_SHORT {
         assert!(bytes.len() < entry.end, "the body is there: {bytes:02x?}");
@@ -330,7 +341,12 @@ fn check_refusal(
         }
         mended[place] = random.below(entry.limit) as u8;
     }
-    let further = desk.read(&mended).map_or_else(|again| again.place > place, |_| true);
+    let further = match desk.read(&mended) {
+        // A supplier that is cut short is filled up to one that is idle, which comes after.
+        Err(again) if again.number == refusal::IDLE_SUPPLIER => again.place >= place,
+        Err(again) => again.place > place,
+        Ok(_) => true,
+    };
     assert!(further, "no further than {refused:?} of {bytes:02x?}: {mended:02x?}");
     Some(mended)
 }
@@ -347,7 +363,7 @@ fn check_behind(desk: &mut Desk, random: &mut Random, spoken_of: &[u8], refused:
 }
 
 /// In an accepted table a kind that is not listed, or a number that is not below
-/// its limit, is refused at its own place.
+/// its limit, is refused at its own place; but such a kind behind a supplier at that.
 fn check_spoilt(desk: &mut Desk, random: &mut Random, bytes: &[u8]) {
     if bytes.is_empty() {
         return;
@@ -355,17 +371,21 @@ fn check_spoilt(desk: &mut Desk, random: &mut Random, bytes: &[u8]) {
     let place = random.below(bytes.len());
     let entry = Entry::around(desk, bytes, place);
     let group = entry.group.expect("a listed kind");
-    let (byte, number) = if place == entry.start {
-        (random.pick(&NOT_LISTED).into(), refusal::KIND_NOT_LISTED)
+    let (byte, refused) = if place == entry.start {
+        let refused = match entry.announced {
+            true => Refusal { number: refusal::IDLE_SUPPLIER, place: place - 2 },
+            false => Refusal { number: refusal::KIND_NOT_LISTED, place },
+        };
+        (random.pick(&NOT_LISTED).into(), Some(refused))
     } else {
         let beyond = entry.limit + random.below(256 - entry.limit);
-        (random.pick(&[entry.limit, beyond]), group.refusal())
+        let refused = group.refusal().map(|number| Refusal { number, place });
+        (random.pick(&[entry.limit, beyond]), refused)
     };
-    // If there are 256 rows, every number is that of a row.
-    if let Ok(byte) = u8::try_from(byte) {
+    // If there are 256 rows, every number is that of a row, and always that of a supplier.
+    if let (Ok(byte), Some(refused)) = (u8::try_from(byte), refused) {
         let mut spoilt = bytes.to_vec();
         spoilt[place] = byte;
-        let refused = Refusal { number, place };
         assert_eq!(desk.read(&spoilt), Err(refused), "{spoilt:02x?}");
         check_refusal(desk, random, &spoilt, refused);
     }

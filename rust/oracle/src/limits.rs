@@ -10,6 +10,7 @@ pub fn tables() -> Vec<Vec<u8>> {
     tables.extend(around(ROWS).map(|rows| counting(0, rows, 0)));
     tables.extend(around(QUESTIONS).map(|count| counting(0, 1, count)));
     tables.extend(last_constraints());
+    tables.extend(announced());
     tables.extend(around_longest());
     tables
 }
@@ -43,6 +44,45 @@ fn last_constraints() -> Vec<Vec<u8>> {
     before.iter().flat_map(and_then).collect()
 }
 
+/// Suppliers at every limit: one named, in force already or another, whole and cut short,
+/// and what it announces: a row, whole and cut short, a question, a constraint, another
+/// supplier, what is no kind, and nothing.
+fn announced() -> Vec<Vec<u8>> {
+    let before = [
+        counting(0, 0, 0),
+        counting(CONSTRAINTS, 0, 0),
+        counting(0, 1, 0),
+        [&[SUPPLIER, 5], &counting(0, 1, 0)[..]].concat(),
+        counting(0, ROWS - 1, 0),
+        counting(0, ROWS, 0),
+        [&[SUPPLIER, 5], &counting(0, ROWS, 0)[..]].concat(),
+        counting(0, 1, 1),
+        counting(CONSTRAINTS, ROWS, QUESTIONS),
+    ];
+    let named: [&[u8]; 4] = [&[SUPPLIER, 0], &[SUPPLIER, 5], &[SUPPLIER, 255], &[SUPPLIER]];
+    let behind: [&[u8]; 12] = [
+        &[],
+        &[CONSTANTS[2]],
+        &[CONSTANTS[2], CONSTANTS[2]],
+        &[CONSTANTS[2], SUPPLIER, 5, CONSTANTS[2]],
+        &[IF_PREDICATE[0], 24],
+        &[ON_ONE_ROW[0]],
+        &[ON_TWO_ROWS[0], 255, 255],
+        &[COMPARISONS[0], 0, 0],
+        &[NEVER_BOTH, 0, 1],
+        &[SUPPLIER, 6, CONSTANTS[2]],
+        &[SUPPLIER],
+        &[NOT_LISTED[0]],
+    ];
+    let mut tables = Vec::new();
+    for before in &before {
+        for named in named {
+            tables.extend(behind.map(|behind| [before, named, behind].concat()));
+        }
+    }
+    tables
+}
+
 /// An entry whose numbers lie around their limit.
 #[derive(Debug)]
 pub struct Probe {
@@ -52,15 +92,18 @@ pub struct Probe {
     pub rows: usize,
     /// How many questions stand before the entry.
     pub questions: usize,
+    /// Whether a supplier, the first of the table, stands right before the entry.
+    pub announced: bool,
     pub group: Group,
     pub kind: u8,
     pub body: Vec<u8>,
 }
 
 impl Probe {
-    /// What stands before the entry: an accepted table.
+    /// What stands before the entry: an accepted table, and perhaps a supplier.
     pub fn before(&self) -> Vec<u8> {
-        counting(self.constraints, self.rows, self.questions)
+        let supplier: &[u8] = if self.announced { &[SUPPLIER, 1] } else { &[] };
+        [&counting(self.constraints, self.rows, self.questions)[..], supplier].concat()
     }
 
     /// What each number of the body must be below.
@@ -83,8 +126,8 @@ impl Probe {
     }
 }
 
-/// Entries of every kind behind few and behind many constraints, rows and questions,
-/// each number of their bodies being 0, the last below its limit, at it, or beyond.
+/// Entries of every kind behind few and behind many constraints, rows and questions, and
+/// some of them right behind a supplier, each number of their bodies being 0, the last below its limit, at it, or beyond.
 pub fn probes() -> Vec<Probe> {
     let mut probes = Vec::new();
     #[rustfmt::skip]
@@ -98,8 +141,11 @@ pub fn probes() -> Vec<Probe> {
         for group in LISTED {
             let numbers = numbers_around(group.limit(rows, questions));
             for &kind in group.kinds {
-                let probe = |body| Probe { constraints, rows, questions, group, kind, body };
-                probes.extend(bodies(&numbers, group.length).into_iter().map(probe));
+                for announced in [false, true] {
+                    let probe =
+                        |body| Probe { constraints, rows, questions, announced, group, kind, body };
+                    probes.extend(bodies(&numbers, group.length).into_iter().map(probe));
+                }
             }
         }
     }
@@ -130,19 +176,21 @@ fn bodies(numbers: &[u8], length: usize) -> Vec<Vec<u8>> {
 }
 
 /// The longest table there is, what is a byte shorter, and longer inputs. Its first row
-/// can name no row, so it has one byte less than the 1056 that 32 constraints, 256 rows
-/// and 64 questions of three bytes would take.
+/// can name no row, so it has one byte less than the 1568 that 32 constraints, 256 rows
+/// and 64 questions of three bytes, and a supplier of two before each row, would take.
 fn around_longest() -> Vec<Vec<u8>> {
     let mut rows = [NEVER_BOTH, 22, 23].repeat(CONSTRAINTS);
-    rows.extend([IF_PREDICATE[1], 23]);
+    rows.extend([SUPPLIER, 255, IF_PREDICATE[1], 23]);
     for number in 1..ROWS {
-        let before = (number - 1) as u8;
-        rows.extend([ON_TWO_ROWS[number % ON_TWO_ROWS.len()], before, before / 2]);
+        let (before, supplier) = ((number - 1) as u8, 255 - number as u8);
+        let kind = ON_TWO_ROWS[number % ON_TWO_ROWS.len()];
+        rows.extend([SUPPLIER, supplier, kind, before, before / 2]);
     }
     let longest = [&rows[..], &[COMPARISONS[0], 255, 254].repeat(QUESTIONS)].concat();
     let and_then = |more: &[u8]| [&longest[..], more].concat();
     vec![
         [&rows[..], &[ON_TWO_ROWS[0], 0, 0]].concat(),
+        [&rows[..], &[SUPPLIER, 7, ON_TWO_ROWS[0], 0, 0]].concat(),
         longest[..longest.len() - 1].to_vec(),
         and_then(&[CONSTANTS[0]]),
         and_then(&[0xFF]),

@@ -1,9 +1,9 @@
 //! The cases of document 01, "From the old desk's notebook", with the places that
-//! document 02, L1, gives to refusals 3 and 4, cases of a row against itself (L3) and of
-//! constraints (L5), and a few beside them of the same kind.
+//! document 02, L1, gives to refusals 3 and 4, cases of a row against itself (L3), of
+//! constraints (L5) and of suppliers (L6), and a few beside them of the same kind.
 
 use crate::call::{Answer, Call, Case};
-use crate::{Refusal, Verdict, CONSTRAINTS};
+use crate::{crafted, Refusal, Verdict, CONSTRAINTS, ROWS, SUPPLIERS};
 
 /// The notebook's table A.
 pub const TABLE_A: &str = "11 00 10 01 33 00 01 01 38 02 03 22 02 40 04 05 40 05 04 43 00 01";
@@ -34,9 +34,15 @@ pub fn cases() -> Vec<Case> {
         readings(),
         constrained_readings(),
         most_constraints(),
+        supplied_readings(),
+        most_supplied(),
         strikes(),
+        supplied_strikes(),
         entries(),
         outside_constraints(),
+        lists(),
+        refused_lists(),
+        beside_suppliers(),
     ];
     groups.into_iter().flatten().collect()
 }
@@ -280,6 +286,86 @@ fn most_constraints() -> Vec<Case> {
     Vec::from(expected.map(|(table, answer)| (table, Call::Read, answer)))
 }
 
+fn supplied_readings() -> Vec<Case> {
+    let expected = [
+        // They are no rows, and n does not count them.
+        ("60 05 00", counts(1, 0, 0)),
+        ("00 60 01 00 60 00 00", counts(3, 0, 0)),
+        ("60 FF 11 02 60 18 10 01", counts(2, 0, 3)),
+        ("50 00 01 60 05 00 40 00 00", counts(1, 1, 2)),
+        // Rows are named by their own numbers.
+        ("60 05 00 60 06 20 00", counts(2, 0, 0)),
+        ("60 05 00 60 06 20 01", refused(4, 6)),
+        // A supplier that is in force already; 0 is, before any is named.
+        ("60 00 00", refused(15, 0)),
+        ("60 05 00 60 05 00", refused(15, 3)),
+        ("60 05 00 60 00 00 60 00 00", refused(15, 6)),
+        ("00 60 00 00", refused(15, 1)),
+        ("50 00 01 60 00 00", refused(15, 3)),
+        // It holds until the next is named, behind every row.
+        ("60 05 00 00 60 05 00", refused(15, 4)),
+        ("60 05 00 00 60 00 00", counts(3, 0, 0)),
+        // No row behind it: a constraint, another supplier, nothing, a question, no kind.
+        ("60 05 50 00 01", refused(15, 0)),
+        ("60 05 60 06 00", refused(15, 0)),
+        ("60 05 60", refused(15, 0)),
+        ("60 05", refused(15, 0)),
+        ("60 05 40", refused(15, 0)),
+        ("60 05 12", refused(15, 0)),
+        ("60 00", refused(15, 0)),
+        ("60 00 40 00 00", refused(15, 0)),
+        ("00 60 05 40 00 00", refused(15, 1)),
+        ("00 60 05", refused(15, 1)),
+        ("00 60 05 50 00 01", refused(15, 1)),
+        // Cut short, before that.
+        ("60", refused(2, 0)),
+        ("00 60", refused(2, 1)),
+        ("60 05 00 60", refused(2, 3)),
+        // What is announced is judged by the kind byte alone, and refused at its own entry.
+        ("60 05 20", refused(2, 2)),
+        ("60 05 20 00", refused(4, 3)),
+        ("60 05 11 18", refused(3, 3)),
+        ("60 05 33 00", refused(2, 2)),
+        ("60 05 00 60 06 30 00 07", refused(4, 7)),
+        // Behind a question, before all else.
+        ("00 40 00 00 60 05 00", refused(5, 4)),
+        ("00 40 00 00 60 00", refused(5, 4)),
+        ("00 40 00 00 60", refused(5, 4)),
+        ("60 05 00 40 00 00 60 05", refused(5, 6)),
+        // A constraint behind a row is out of order, whosever the row is.
+        ("60 05 00 50 00 01", refused(5, 3)),
+        // Beside its kind.
+        ("5F 05 00", refused(1, 0)),
+        ("61 05 00", refused(1, 0)),
+    ];
+    Vec::from(expected.map(|(table, answer)| (hex(table), Call::Read, answer)))
+}
+
+/// As many rows as there may be, and a supplier behind them: it is no row.
+fn most_supplied() -> Vec<Case> {
+    let most = vec![0; 256];
+    let behind_most = |line| [&most[..], &hex(line)].concat();
+    let each_its_own = || (1..=255).flat_map(|supplier| [0x60, supplier, 0]).collect::<Vec<u8>>();
+    let expected = [
+        (behind_most("60 05"), refused(15, 256)),
+        (behind_most("60 05 00"), refused(6, 258)),
+        (behind_most("60 05 20"), refused(6, 258)),
+        (behind_most("60 05 40 00 00"), refused(15, 256)),
+        (behind_most("60 00 00"), refused(15, 256)),
+        (behind_most("60"), refused(2, 256)),
+        (behind_most("40 00 00 60"), refused(5, 259)),
+        ([hex("60 05"), most.clone()].concat(), counts(256, 0, 0)),
+        ([hex("60 05"), most.clone(), hex("60 05 00")].concat(), refused(15, 258)),
+        ([hex("60 05"), most.clone(), hex("60 06 00")].concat(), refused(6, 260)),
+        ([hex("50 00 01").repeat(CONSTRAINTS), hex("60 05 00")].concat(), counts(1, 0, 2)),
+        ([hex("50 00 01").repeat(CONSTRAINTS), hex("60 05 50")].concat(), refused(15, 96)),
+        (each_its_own(), counts(255, 0, 0)),
+        ([each_its_own(), hex("60 00 00")].concat(), counts(256, 0, 0)),
+        ([each_its_own(), hex("60 00 00 60 01 00")].concat(), refused(6, 770)),
+    ];
+    Vec::from(expected.map(|(table, answer)| (table, Call::Read, answer)))
+}
+
 /// Strikes of a row, with as much room as the table is long.
 fn strikes() -> Vec<Case> {
     let written = |table| Answer::Written(hex(table));
@@ -306,6 +392,43 @@ fn strikes() -> Vec<Case> {
     Vec::from(expected.map(case))
 }
 
+/// Strikes from tables with suppliers: what is left, and that it takes as much room as it
+/// is long.
+fn supplied_strikes() -> Vec<Case> {
+    let expected = [
+        // A supplier is named only where it changes: two are left out, one, or none.
+        ("00 60 01 00 60 00 00", 1, "00 00"),
+        ("00 60 01 00 00", 1, "00 60 01 00"),
+        ("00 60 01 00 60 02 00", 1, "00 60 02 00"),
+        ("00 60 01 00", 1, "00"),
+        ("60 05 00 60 00 00", 0, "00"),
+        ("60 05 00 60 06 00", 0, "60 06 00"),
+        ("60 05 00 00 60 06 00", 0, "60 05 00 60 06 00"),
+        ("60 05 00 60 06 00 60 05 00", 1, "60 05 00 00"),
+        ("60 05 00 60 06 00 60 05 00", 2, "60 05 00 60 06 00"),
+        ("60 05 00", 0, ""),
+        // A row of three bytes, one that names rows, questions and constraints.
+        ("60 05 00 60 06 33 00 00 60 05 00", 1, "60 05 00 00"),
+        ("50 00 01 60 07 00 02 60 08 20 01 40 01 02", 0, "50 00 01 60 07 02 60 08 20 00 40 00 01"),
+    ];
+    let mut cases = vec![
+        (hex("60 05 00"), Call::Strike { row: 1, room: 0 }, refused(8, 0)),
+        (hex("60 05 00 40 00 00"), Call::Strike { row: 0, room: 0 }, refused(9, 0)),
+        (hex("60 05"), Call::Strike { row: 0, room: 0 }, refused(15, 0)),
+    ];
+    for (table, row, left) in expected {
+        let (table, left) = (hex(table), hex(left));
+        for room in [left.len(), table.len()] {
+            let written = Answer::Written(left.clone());
+            cases.push((table.clone(), Call::Strike { row, room }, written));
+        }
+        for room in 0..left.len() {
+            cases.push((table.clone(), Call::Strike { row, room }, refused(11, 0)));
+        }
+    }
+    cases
+}
+
 fn entries() -> Vec<Case> {
     let expected = [
         (TABLE_A, 0, Answer::Entry(0..2)),
@@ -318,6 +441,12 @@ fn entries() -> Vec<Case> {
         ("50 00 01 51 05 01 11 00 03", 1, Answer::Entry(8..9)),
         ("50 00 01 51 05 01 11 00 03", 2, refused(8, 0)),
         ("50 00 01", 0, refused(8, 0)),
+        // A supplier is no row, and no part of one.
+        ("60 05 00", 0, Answer::Entry(2..3)),
+        ("60 05 00 60 06 33 00 00 00", 1, Answer::Entry(5..8)),
+        ("60 05 00 60 06 33 00 00 00", 2, Answer::Entry(8..9)),
+        ("60 05 00 60 06 33 00 00 00", 3, refused(8, 0)),
+        ("50 00 01 60 05 11 00", 0, Answer::Entry(5..7)),
     ];
     let case = |(table, row, answer)| (hex(table), Call::Entry { row }, answer);
     Vec::from(expected.map(case))
@@ -331,5 +460,92 @@ fn outside_constraints() -> Vec<Case> {
         (never_0(), Call::Decide { row: 0, yes: 0xFF_FFFF }, Answer::Code(2)),
         (never_0(), Call::Possible { row: 0, known: 0, yes: 0 }, Answer::Set(5)),
         (never_0(), Call::Possible { row: 0, known: 1, yes: 1 }, Answer::Set(4)),
+    ]
+}
+
+/// A table of four offices: rows 0 and 1 are of supplier 9 and 2, row 2 joins them and is
+/// nobody's, row 3 is of supplier 5 alone, row 4 of supplier 2 overrides row 2 by row 3,
+/// and row 5 is of supplier 9 and names row 1. Question 0 asks of rows 4 and 5.
+const OFFICES: &str = "60 09 11 00 60 02 10 01 60 00 33 00 01 60 05 01 60 02 38 02 03 \
+                       60 09 22 01 40 04 05";
+
+/// The suppliers of all rows that a row reaches.
+fn lists() -> Vec<Case> {
+    let expected: [(&str, u32, &[u8]); 19] = [
+        (OFFICES, 0, &[9]),
+        (OFFICES, 1, &[2]),
+        (OFFICES, 2, &[0, 2, 9]),
+        (OFFICES, 3, &[5]),
+        // Not of the rows that it names alone, and each once: supplier 2 has two rows.
+        (OFFICES, 4, &[0, 2, 5, 9]),
+        (OFFICES, 5, &[2, 9]),
+        // Without suppliers there is 0 alone.
+        (TABLE_A, 0, &[0]),
+        (TABLE_A, 4, &[0]),
+        // The row itself, though it is nobody's or names nothing.
+        ("60 05 00 60 00 20 00", 1, &[0, 5]),
+        ("60 05 00 60 00 00", 1, &[0]),
+        // Through rows of one, and of two, one of them twice.
+        ("60 03 00 60 02 20 00 60 01 20 01 60 00 20 02", 3, &[0, 1, 2, 3]),
+        ("60 03 00 60 02 20 00 60 01 20 01 60 00 20 02", 2, &[1, 2, 3]),
+        ("60 03 00 60 02 00 60 01 35 00 01", 2, &[1, 2, 3]),
+        ("60 03 00 60 02 00 60 01 35 01 01", 2, &[1, 2]),
+        ("60 03 00 60 02 00 60 01 35 00 00", 2, &[1, 3]),
+        // A predicate is no row; nor is a supplier's number, or a question's.
+        ("60 03 00 60 04 11 00", 1, &[4]),
+        ("60 03 00 60 02 00 60 00 20 01 40 00 02", 2, &[0, 2]),
+        // The least and the greatest.
+        ("60 FF 00 60 00 20 00", 1, &[0, 255]),
+        ("60 FF 00 60 FE 20 00", 1, &[254, 255]),
+    ];
+    let mut cases: Vec<Case> = expected
+        .into_iter()
+        .flat_map(|(table, row, list)| with_every_room(&hex(table), row, list))
+        .collect();
+    // Every supplier, falling from row to row.
+    for table in [crafted::chain_of_rows(ROWS), crafted::ladder_of_rows(ROWS)] {
+        for row in [0, 2, 100, 255] {
+            let list: Vec<u8> = (255 - row..=255).collect();
+            cases.extend(with_every_room(&table, row.into(), &list));
+        }
+    }
+    cases
+}
+
+/// A list in an output that is long enough, and in one that is not.
+fn with_every_room(table: &[u8], row: u32, list: &[u8]) -> Vec<Case> {
+    let case = |room, answer| (table.to_vec(), Call::Suppliers { row, room }, answer);
+    let enough = [SUPPLIERS, list.len() + 1, list.len()];
+    let enough = enough.map(|room| case(room, Answer::Written(list.to_vec())));
+    let too_short = [list.len() - 1, 0].map(|room| case(room, refused(11, 0)));
+    enough.into_iter().chain(too_short).collect()
+}
+
+/// A list is refused as reading is; then with 8, and then with 11.
+fn refused_lists() -> Vec<Case> {
+    let expected = [
+        ("60 05 00", 1, 0, refused(8, 0)),
+        ("60 05 00", u32::MAX, SUPPLIERS, refused(8, 0)),
+        ("", 0, 0, refused(8, 0)),
+        ("50 00 01", 0, 0, refused(8, 0)),
+        ("60 05 00", 0, 0, refused(11, 0)),
+        ("60 05", 0, 0, refused(15, 0)),
+        ("60 05 00 60", 9, 0, refused(2, 3)),
+        ("12", 0, 0, refused(1, 0)),
+        ("00 30 00 05", 0, SUPPLIERS, refused(4, 3)),
+    ];
+    let case = |(table, row, room, answer)| (hex(table), Call::Suppliers { row, room }, answer);
+    Vec::from(expected.map(case))
+}
+
+/// Deciding, the sets and the walk do not look at suppliers.
+fn beside_suppliers() -> Vec<Case> {
+    let offices = || hex(OFFICES);
+    vec![
+        (offices(), Call::Read, counts(6, 1, 2)),
+        (offices(), Call::Decide { row: 2, yes: 3 }, Answer::Code(3)),
+        (offices(), Call::Decide { row: 4, yes: 0 }, Answer::Code(1)),
+        (offices(), Call::Possible { row: 4, known: 1, yes: 1 }, Answer::Set(12)),
+        (offices(), Call::Verdict { question: 0, budget: 1_000_000 }, Answer::Verdict(fails(1, 3))),
     ]
 }

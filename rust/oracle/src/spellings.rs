@@ -1,4 +1,4 @@
-//! The cases of document 02, L2, with the words of L5: texts, and what reading and
+//! The cases of document 02, L2, with the words of L5 and L6: texts, and what reading and
 //! writing them must answer. Each is written out by hand.
 
 use crate::call::{Answer, Call, Case};
@@ -20,7 +20,7 @@ both 0 1
 
 /// A table with every kind once, and its text.
 const EVERY_KIND: (&str, &str) = (
-    "50 00 17 51 0A 09 00 01 02 03 10 17 11 00 20 00 21 01 22 02 23 03 \
+    "50 00 17 51 0A 09 00 01 60 FF 02 03 10 17 11 00 20 00 21 01 22 02 23 03 \
      30 08 09 31 09 08 32 00 00 33 01 02 34 0A 0B 35 0C 0D \
      38 0E 0F 39 01 10 3A 02 11 3B 12 03 40 13 00 41 00 13 42 01 43 02 01",
     "\
@@ -28,6 +28,7 @@ never-both 0 23
 only-if 10 9
 unspecified
 deny
+supplier 255
 grant
 conflict
 deny-if 23
@@ -79,6 +80,16 @@ fn tables() -> Vec<Case> {
         (hex("50 07 07"), "never-both 7 7\n".to_string()),
         (hex("51 17 00 00"), "only-if 23 0\nunspecified\n".to_string()),
         (hex("50 00 17").repeat(32), "never-both 0 23\n".repeat(32)),
+        (hex("60 05 00"), "supplier 5\nunspecified\n".to_string()),
+        (
+            hex("00 60 64 00 60 00 00"),
+            "unspecified\nsupplier 100\nunspecified\nsupplier 0\nunspecified\n".to_string(),
+        ),
+        (
+            hex("51 00 00 60 09 00 00 40 01 00"),
+            "only-if 0 0\nsupplier 9\nunspecified\nunspecified\ntruth-at-or-below 1 0\n"
+                .to_string(),
+        ),
         (hex(TABLE_A), TEXT_A.to_string()),
         (hex(EVERY_KIND.0), EVERY_KIND.1.to_string()),
         (rows(256), "conflict\n".repeat(256) + questions),
@@ -96,7 +107,7 @@ fn tables() -> Vec<Case> {
 /// Lines that are refused with 12: the word is unknown, or a number is above 255,
 /// wherever on the line it stands.
 #[rustfmt::skip]
-const UNKNOWN: [&str; 83] = [
+const UNKNOWN: [&str; 89] = [
     // A number above 255 goes before every other slip, and is above it by value.
     "deny 300\n", "deny-if  300\n", "deny-if x 300\n", "deny-if 0300\n", "deny-if 4294967297\n",
     // At the limit, and at the limits of a machine's numbers.
@@ -117,6 +128,8 @@ const UNKNOWN: [&str; 83] = [
     "neg 0\n", "u\n", "xyz", " ",
     "never 0 1\n", "never-bot 0 1\n", "neverboth 0 1\n", "only 0 1\n", "only-iff 0 1\n",
     "Only-if 0 1\n", "never-both 0 256\n",
+    "supplie 5\n", "suppliers 5\n", "Supplier 5\n", "supplier 256\n", "supplier 5 256\n",
+    "supplier-5\n",
     "unknown 0300 x\n", "unknown 03\n",
     // Space and line feed alone separate.
     "deny\r\n", "deny\t\n", "\tdeny\n", "deny-if\t3\n", "deny-if\r 3\n", "\r\n", "deny\0\n",
@@ -126,7 +139,7 @@ const UNKNOWN: [&str; 83] = [
 
 /// Lines that are refused with 13.
 #[rustfmt::skip]
-const MISSPELT: [&str; 67] = [
+const MISSPELT: [&str; 73] = [
     // A leading zero.
     "deny-if 03\n", "deny-if 00\n", "deny-if 000\n", "deny-if 023\n", "deny-if 0255\n",
     "deny-if 00000000000000000000000000003\n", "truth-meet 00 0\n", "truth-meet 0 00\n",
@@ -142,6 +155,7 @@ const MISSPELT: [&str; 67] = [
     "truth-meet 0 0 0\n", "not\n", "not 0 0\n", "both 0\n", "both 0 0 0\n", "negation\n",
     "truth-at-or-below 0\n", "grant 255 255\n", "never-both 0\n", "only-if\n",
     "only-if 0 1 2\n", "never-both 0 01\n", "only-if 0  1\n", "never-both 0 1",
+    "supplier\n", "supplier 5 6\n", "supplier 05\n", "supplier 00\n", "supplier x\n", "supplier 5",
     // A missing line feed.
     "deny", "deny-if 3", "deny-if 23", "truth-meet 0 0", "deny-if 24", "deny-if 03", "deny ",
     // Space and line feed alone separate.
@@ -187,6 +201,10 @@ fn orders() -> Vec<Case> {
         ("deny-if 24\ndeny", refused(13, 2)),
         ("negation 7\ndeny\nnegation 0 0\n", refused(13, 3)),
         ("deny\nnot 0\ndeny\n\n", refused(12, 4)),
+        ("supplier 0\ndeny\nden\n", refused(12, 3)),
+        ("supplier 5\nsupplier 6\nsupplier\n", refused(13, 3)),
+        ("supplier 5\nden\n", refused(12, 2)),
+        ("supplier 5\ndeny", refused(13, 2)),
     ];
     let mut cases: Vec<Case> = cases.map(|(text, answer)| reading(text, answer)).into();
     // Also far behind the lines that are past every limit.
@@ -221,11 +239,30 @@ fn entries() -> Vec<Case> {
         ("only-if 0 1\ndeny\nonly-if 24 24\n", refused(5, 3)),
         ("deny\ntruth-at-or-below 0 0\nonly-if 0 1\n", refused(5, 3)),
         ("only-if 0 1\nnegation 0\n", refused(4, 2)),
+        // A supplier is a line, and so no row's line is its number.
+        ("supplier 5\ndeny\nnegation 1\n", refused(4, 3)),
+        ("supplier 5\ndeny-if 24\n", refused(3, 2)),
+        ("supplier 5\nnegation 0\n", refused(4, 2)),
+        ("supplier 0\ndeny\n", refused(15, 1)),
+        ("supplier 5\ndeny\nsupplier 5\ndeny\n", refused(15, 3)),
+        ("supplier 5\ndeny\ndeny\nsupplier 5\ndeny-if 24\n", refused(15, 4)),
+        ("supplier 5\n", refused(15, 1)),
+        ("supplier 5\nsupplier 6\ndeny\n", refused(15, 1)),
+        ("supplier 5\nnever-both 0 1\n", refused(15, 1)),
+        ("never-both 0 1\ndeny\nsupplier 5\ntruth-at-or-below 0 0\n", refused(15, 3)),
+        ("deny\nsupplier 5\n", refused(15, 2)),
+        ("deny\ntruth-at-or-below 0 0\nsupplier 5\ndeny\n", refused(5, 3)),
+        ("deny\ntruth-at-or-below 0 0\nsupplier 0\n", refused(5, 3)),
+        ("supplier 5\ndeny\nonly-if 0 1\n", refused(5, 3)),
+        ("deny-if 24\nsupplier 0\n", refused(3, 1)),
     ];
     let mut cases: Vec<Case> = cases.map(|(text, answer)| reading(text, answer)).into();
     let (rows, questions) = ("unspecified\n".repeat(256), "truth-at-or-below 0 0\n".repeat(64));
     cases.push(reading(rows.clone() + "unspecified\n", refused(6, 257)));
     cases.push(reading(rows.clone() + "deny-if 24\n", refused(6, 257)));
+    cases.push(reading(rows.clone() + "supplier 5\nunspecified\n", refused(6, 258)));
+    cases.push(reading(rows.clone() + "supplier 5\nnot 0\n", refused(15, 257)));
+    cases.push(reading(rows.clone() + "supplier 5\n", refused(15, 257)));
     cases.push(reading(rows.clone() + &questions + "not 0\n", refused(7, 321)));
     cases.push(reading(rows + &questions + "deny\n", refused(5, 321)));
     cases.push(reading("unspecified\n".to_string() + &questions + "not 255\n", refused(7, 66)));
@@ -259,6 +296,8 @@ fn rooms() -> Vec<Case> {
         no_room("deny\nnegation 1\n", refused(4, 2)),
         no_room("deny-if 03\n", refused(13, 1)),
         no_room("deny\nxyz\n", refused(12, 2)),
+        no_room("supplier 5\ndeny\n", refused(11, 0)),
+        no_room("supplier 5\n", refused(15, 1)),
         (hex(""), Call::ToText { room: 0 }, Answer::Written(Vec::new())),
     ]
 }
@@ -276,6 +315,8 @@ fn refused_tables() -> Vec<Case> {
         ("00 40 00 00 00", refused(5, 4)),
         ("00 50 00 00", refused(5, 1)),
         ("51 00 18", refused(3, 2)),
+        ("60 05", refused(15, 0)),
+        ("60 05 20", refused(2, 2)),
     ];
     let rooms = [0, TEXT_BYTES];
     let case = |(table, answer): (&str, Answer)| {

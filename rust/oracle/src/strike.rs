@@ -2,14 +2,22 @@
 
 use std::ops::Range;
 
-use crate::refusal::{Refusal, OUTPUT_TOO_SHORT, ROW_IS_NAMED};
-use crate::table::{entries, read, Entry};
+use crate::output::write;
+use crate::refusal::{Refusal, ROW_IS_NAMED};
+use crate::table::{entries, read, Entry, Kind, Part, Table};
 
-/// Where the bytes of row `row` lie in the table.
+/// Where the bytes of row `row` lie in the table, from its kind byte on.
 pub fn entry(bytes: &[u8], row: u32) -> Result<Range<usize>, Refusal> {
     let table = read(bytes)?;
     let row = table.find_row(row)?;
-    Ok(place_of(bytes, table.entry_of_row(row)))
+    let mut end = 0;
+    let places = entries(bytes).map(|entry| {
+        let start = end;
+        end += entry.bytes.len();
+        (entry.kind.part(), start..end)
+    });
+    let mut rows = places.filter(|(part, _)| *part == Part::Rows).map(|(_, place)| place);
+    Ok(rows.nth(row).expect("a row of the table"))
 }
 
 /// Writes the table without row `row` to the front of `out` and answers how
@@ -20,18 +28,38 @@ pub fn strike(bytes: &[u8], row: u32, out: &mut [u8]) -> Result<usize, Refusal> 
     if entries(bytes).any(|entry| entry.names(row)) {
         return Err(Refusal::of_request(ROW_IS_NAMED));
     }
-    let struck = table.entry_of_row(row);
-    let need = bytes.len() - place_of(bytes, struck).len();
-    if out.len() < need {
-        return Err(Refusal::of_request(OUTPUT_TOO_SHORT));
-    }
-    let mut end = 0;
-    for (number, entry) in entries(bytes).enumerate() {
-        if number != struck {
-            end += entry.write_without(row, &mut out[end..]);
+    write(&without(bytes, &table, row), out)
+}
+
+/// The bytes of the table without row `struck`, which no entry names.
+///
+/// Document 02, L6: "Striking keeps every row's supplier, and writes a 60 only where the
+/// supplier changes." So those that stand there are left out, and written anew.
+fn without(bytes: &[u8], table: &Table, struck: usize) -> Vec<u8> {
+    let mut left = Vec::with_capacity(bytes.len());
+    let (mut number, mut in_force) = (0, 0);
+    for entry in entries(bytes) {
+        match entry.kind.part() {
+            Part::Suppliers => {}
+            Part::Rows => {
+                if number != struck {
+                    push_supplier(table.suppliers[number], &mut in_force, &mut left);
+                    entry.push_without(struck, &mut left);
+                }
+                number += 1;
+            }
+            Part::Constraints | Part::Questions => entry.push_without(struck, &mut left),
         }
     }
-    Ok(end)
+    left
+}
+
+/// Adds the supplier of the next row, unless it is in force.
+fn push_supplier(supplier: u8, in_force: &mut u8, bytes: &mut Vec<u8>) {
+    if supplier != *in_force {
+        bytes.extend([Kind::SUPPLIER, supplier]);
+        *in_force = supplier;
+    }
 }
 
 impl Entry<'_> {
@@ -40,24 +68,14 @@ impl Entry<'_> {
         self.kind.names_rows() && body.iter().any(|&number| usize::from(number) == row)
     }
 
-    /// Writes the entry to the front of `out`, each row number above `struck`
-    /// lowered by one, and answers its length.
-    fn write_without(self, struck: usize, out: &mut [u8]) -> usize {
-        let out = &mut out[..self.bytes.len()];
-        out.copy_from_slice(self.bytes);
+    /// Adds the entry to `bytes`, each row number above `struck` lowered by one.
+    fn push_without(self, struck: usize, bytes: &mut Vec<u8>) {
+        let start = bytes.len();
+        bytes.extend_from_slice(self.bytes);
         if self.kind.names_rows() {
-            for number in &mut out[1..] {
+            for number in &mut bytes[start + 1..] {
                 *number -= u8::from(usize::from(*number) > struck);
             }
         }
-        out.len()
     }
-}
-
-/// Where entry `number`, which is there, lies.
-fn place_of(bytes: &[u8], number: usize) -> Range<usize> {
-    let mut lengths = entries(bytes).map(|entry| entry.bytes.len());
-    let start = lengths.by_ref().take(number).sum();
-    let length = lengths.next().unwrap_or(0);
-    start..start + length
 }

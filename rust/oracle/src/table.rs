@@ -1,7 +1,9 @@
 //! The table: its kinds of entry, its limits, and reading it from bytes.
 //!
 //! Document 02, L5, adds to the rows and questions two kinds of entries "before all
-//! rows". They say which requests cannot occur and are called constraints here.
+//! rows". They say which requests cannot occur and are called constraints here. L6 adds
+//! one more, which says whose the rows behind it are. It is called a supplier here, as
+//! is the number in it.
 
 use crate::decision::{Binary, Decision, Order, Unary};
 use crate::refusal::{self, Refusal};
@@ -14,13 +16,19 @@ pub const CONSTRAINTS: usize = 32;
 pub const ROWS: usize = 256;
 /// The most questions a table may have.
 pub const QUESTIONS: usize = 64;
-/// So many bytes are always enough for a table.
-pub const TABLE_BYTES: usize = 3 * (CONSTRAINTS + ROWS + QUESTIONS);
+/// How many suppliers there are: 0 to 255. So many bytes are always enough for a list
+/// of them.
+pub const SUPPLIERS: usize = 256;
+/// So many bytes are always enough for a table: no entry has more than three, and before
+/// each row a supplier of two may stand.
+pub const TABLE_BYTES: usize = 3 * (CONSTRAINTS + ROWS + QUESTIONS) + 2 * ROWS;
 
-/// The parts of a table, in their order: each entry stands in one of them.
+/// The parts of a table, in their order: each entry stands in one of them. Suppliers
+/// stand among the rows, each before one.
 #[derive(Clone, Copy, Debug, PartialEq, Eq)]
 pub enum Part {
     Constraints,
+    Suppliers,
     Rows,
     Questions,
 }
@@ -30,6 +38,7 @@ pub enum Part {
 pub enum Kind {
     NeverBoth,
     OnlyIf,
+    Supplier,
     Always(Decision),
     When(Decision),
     Unary(Unary),
@@ -40,7 +49,12 @@ pub enum Kind {
 }
 
 impl Kind {
-    /// The kind that `byte` stands for, if it is listed.
+    /// The byte of a supplier.
+    pub const SUPPLIER: u8 = 0x60;
+
+    /// The kind that `byte` stands for, if it is listed. This is asked of every entry, and
+    /// the benchmark times it, so no call is made for it.
+    #[inline(always)]
     pub fn of(byte: u8) -> Option<Kind> {
         Some(match byte {
             0x00 => Kind::Always(Decision::U),
@@ -69,6 +83,7 @@ impl Kind {
             0x43 => Kind::Both,
             0x50 => Kind::NeverBoth,
             0x51 => Kind::OnlyIf,
+            Kind::SUPPLIER => Kind::Supplier,
             _ => return None,
         })
     }
@@ -77,7 +92,7 @@ impl Kind {
     pub fn body_length(self) -> usize {
         match self {
             Kind::Always(_) => 0,
-            Kind::When(_) | Kind::Unary(_) | Kind::Not => 1,
+            Kind::When(_) | Kind::Unary(_) | Kind::Not | Kind::Supplier => 1,
             Kind::Binary(_) | Kind::Compare(_) | Kind::Both => 2,
             Kind::NeverBoth | Kind::OnlyIf => 2,
         }
@@ -88,9 +103,10 @@ impl Kind {
         matches!(self, Kind::Unary(_) | Kind::Binary(_) | Kind::Compare(_))
     }
 
-    fn part(self) -> Part {
+    pub fn part(self) -> Part {
         match self {
             Kind::NeverBoth | Kind::OnlyIf => Part::Constraints,
+            Kind::Supplier => Part::Suppliers,
             Kind::Always(_) | Kind::When(_) | Kind::Unary(_) | Kind::Binary(_) => Part::Rows,
             Kind::Compare(_) | Kind::Not | Kind::Both => Part::Questions,
         }
@@ -123,6 +139,18 @@ pub enum Row {
     Binary(Binary, u8, u8),
 }
 
+impl Row {
+    /// The rows that it names.
+    pub fn operands(self) -> impl Iterator<Item = usize> {
+        let operands = match self {
+            Row::Always(_) | Row::When(..) => [None, None],
+            Row::Unary(_, x) => [Some(x), None],
+            Row::Binary(_, x, y) => [Some(x), Some(y)],
+        };
+        operands.into_iter().flatten().map(usize::from)
+    }
+}
+
 /// A question as read; `Compare` names rows, the others earlier questions.
 #[derive(Clone, Copy, Debug)]
 pub enum Question {
@@ -136,7 +164,11 @@ pub enum Question {
 pub struct Table {
     pub constraints: Vec<Constraint>,
     pub rows: Vec<Row>,
+    /// The supplier of each row, and 0 behind the last.
+    pub suppliers: [u8; ROWS],
     pub questions: Vec<Question>,
+    /// The supplier in force, which the next row gets.
+    supplier: u8,
 }
 
 impl Table {
@@ -144,7 +176,9 @@ impl Table {
         Table {
             constraints: Vec::with_capacity(CONSTRAINTS),
             rows: Vec::with_capacity(ROWS),
+            suppliers: [0; ROWS],
             questions: Vec::with_capacity(QUESTIONS),
+            supplier: 0,
         }
     }
 
@@ -168,11 +202,6 @@ impl Table {
         find(number, self.questions.len())
     }
 
-    /// Which entry of the table row `row` is: the rows follow the constraints.
-    pub fn entry_of_row(&self, row: usize) -> usize {
-        self.constraints.len() + row
-    }
-
     /// Reads the entry whose kind byte is at `place` and answers where it ends.
     pub(crate) fn read_entry(&mut self, bytes: &[u8], place: usize) -> Result<usize, Refusal> {
         let at_kind_byte = |number| Refusal { number, place };
@@ -181,6 +210,9 @@ impl Table {
         let start = place + 1;
         let end = start + kind.body_length();
         let numbers = bytes.get(start..end).ok_or(at_kind_byte(refusal::BODY_CUT_SHORT))?;
+        if let Kind::Supplier = kind {
+            self.check_supplier(numbers[0], bytes.get(end)).map_err(at_kind_byte)?;
+        }
         self.add(kind, Body { numbers, start })?;
         Ok(end)
     }
@@ -191,7 +223,7 @@ impl Table {
         let (has_rows, has_questions) = (!self.rows.is_empty(), !self.questions.is_empty());
         match kind.part() {
             Part::Constraints if has_rows || has_questions => Err(refusal::OUT_OF_ORDER),
-            Part::Rows if has_questions => Err(refusal::OUT_OF_ORDER),
+            Part::Suppliers | Part::Rows if has_questions => Err(refusal::OUT_OF_ORDER),
             Part::Rows if self.rows.len() == ROWS => Err(refusal::TOO_MANY_ROWS),
             Part::Questions if self.questions.len() == QUESTIONS => {
                 Err(refusal::TOO_MANY_QUESTIONS)
@@ -201,6 +233,27 @@ impl Table {
             }
             _ => Ok(()),
         }
+    }
+
+    /// May this supplier be named before what the next byte, if there is one, announces?
+    ///
+    /// Document 02, L6: "15, a 60 that repeats the supplier in force or is not followed by a
+    /// row's kind byte, at the 60, after 2". It is kept apart from the reading of other
+    /// entries, which would take longer for it.
+    #[inline(never)]
+    fn check_supplier(&self, supplier: u8, next: Option<&u8>) -> Result<(), u32> {
+        let announced = next.and_then(|&byte| Kind::of(byte)).map(Kind::part);
+        if supplier == self.supplier || announced != Some(Part::Rows) {
+            Err(refusal::IDLE_SUPPLIER)
+        } else {
+            Ok(())
+        }
+    }
+
+    /// Adds a row, which gets the supplier in force.
+    fn add_row(&mut self, row: Row) {
+        self.suppliers[self.rows.len()] = self.supplier;
+        self.rows.push(row);
     }
 
     /// Adds the entry of this kind and body, of the kind's length.
@@ -216,10 +269,11 @@ impl Table {
                 self.constraints.push(Constraint::NeverBoth(predicate(0)?, predicate(1)?))
             }
             Kind::OnlyIf => self.constraints.push(Constraint::OnlyIf(predicate(0)?, predicate(1)?)),
-            Kind::Always(decision) => self.rows.push(Row::Always(decision)),
-            Kind::When(decision) => self.rows.push(Row::When(predicate(0)?, decision)),
-            Kind::Unary(operator) => self.rows.push(Row::Unary(operator, row(0)?)),
-            Kind::Binary(operator) => self.rows.push(Row::Binary(operator, row(0)?, row(1)?)),
+            Kind::Supplier => self.supplier = body.numbers[0],
+            Kind::Always(decision) => self.add_row(Row::Always(decision)),
+            Kind::When(decision) => self.add_row(Row::When(predicate(0)?, decision)),
+            Kind::Unary(operator) => self.add_row(Row::Unary(operator, row(0)?)),
+            Kind::Binary(operator) => self.add_row(Row::Binary(operator, row(0)?, row(1)?)),
             Kind::Compare(order) => self.questions.push(Question::Compare(order, row(0)?, row(1)?)),
             Kind::Not => self.questions.push(Question::Not(question(0)?)),
             Kind::Both => self.questions.push(Question::Both(question(0)?, question(1)?)),
@@ -260,7 +314,7 @@ impl Body<'_> {
     }
 }
 
-/// Reads a whole table, or refuses with one of 1 to 7 and 14 at the first bad entry.
+/// Reads a whole table, or refuses with one of 1 to 7, 14 and 15 at the first bad entry.
 pub fn read(bytes: &[u8]) -> Result<Table, Refusal> {
     let mut table = Table::empty();
     let mut place = 0;

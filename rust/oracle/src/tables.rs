@@ -6,6 +6,8 @@ use crate::crafted::{rows_of_every_set, ROWS_OF_EVERY_SET};
 use crate::kinds::*;
 use crate::limits::{self, Probe};
 use crate::random::Random;
+use crate::supplied::{in_force, with_suppliers};
+use crate::texts::entries;
 use crate::{possible_by, read, verdict, Choice, Verdict, CONSTRAINTS, PREDICATES, ROWS};
 
 /// What a random table is to look like.
@@ -28,6 +30,8 @@ pub struct Shape {
     /// In how many of a hundred tables the rows of `rows_of_every_set` come first, by
     /// any of the predicates; if it is in some, `rows` must leave room for them.
     pub every_set: usize,
+    /// In how many of a hundred tables suppliers are named.
+    pub suppliers: usize,
 }
 
 /// The empty table, and what the shapes below take from here.
@@ -40,18 +44,22 @@ pub const EMPTY: Shape = Shape {
     reach: ROWS,
     repeats: 0,
     every_set: 0,
+    suppliers: 0,
 };
 
 /// So many predicates beyond those of rows constraints draw from, if there are so many.
 const BEYOND: usize = 2;
 
+/// Mostly with suppliers.
+const SUPPLIED: Shape = Shape { suppliers: 75, ..EMPTY };
+
 /// Often without constraints, else mostly with few: with many of them on few predicates
 /// hardly any request is left.
-const LIMITED: Shape = Shape { constraints: &[0, 0, 0, 1, 2, 3, 5, 8], ..EMPTY };
+const LIMITED: Shape = Shape { constraints: &[0, 0, 0, 1, 2, 3, 5, 8], ..SUPPLIED };
 
 /// From no constraint to as many as there may be.
 const STRICT: Shape =
-    Shape { constraints: &[0, 0, 1, 3, 10, 20, CONSTRAINTS - 1, CONSTRAINTS], ..EMPTY };
+    Shape { constraints: &[0, 0, 1, 3, 10, 20, CONSTRAINTS - 1, CONSTRAINTS], ..SUPPLIED };
 
 /// Tables small enough to try every request.
 pub const SMALL: Shape =
@@ -121,7 +129,26 @@ pub fn table(random: &mut Random, shape: &Shape) -> Vec<u8> {
         let count = random.pick(shape.constraints);
         bytes = [constraints(random, count, predicates, &bytes), bytes].concat();
     }
+    if random.percent(shape.suppliers) {
+        bytes = with_suppliers(&bytes, &suppliers(random, rows));
+    }
     bytes
+}
+
+/// A supplier for each of so many rows: of few who take turns or of any, in long runs, in
+/// short ones, or drawn for each row.
+pub fn suppliers(random: &mut Random, rows: usize) -> Vec<u8> {
+    let every: Vec<u8> = (0..=u8::MAX).collect();
+    let of = random.pick(&[&[0, 1][..], &[1, 2, 3], &[0, 9, 254, 255], &every]);
+    let change = random.pick(&[10, 50, 100]);
+    let mut supplier = random.pick(of);
+    let mut draw = || {
+        if random.percent(change) {
+            supplier = random.pick(of);
+        }
+        supplier
+    };
+    (0..rows).map(|_| draw()).collect()
 }
 
 /// So many constraints to stand before the rest of a table. Every other one, as far as
@@ -241,7 +268,7 @@ fn is_open(bytes: &[u8], question: usize) -> bool {
 /// What is left of a table after some mishap; it may still be accepted.
 pub fn damaged(random: &mut Random, mut bytes: Vec<u8>) -> Vec<u8> {
     let place = random.below(bytes.len() + 1);
-    match random.below(8) {
+    match random.below(10) {
         0 => bytes.truncate(place),
         1 => bytes.insert(place, any_byte(random)),
         2 => bytes.extend_from_within(..),
@@ -260,6 +287,7 @@ pub fn damaged(random: &mut Random, mut bytes: Vec<u8>) -> Vec<u8> {
             let count = random.pick(&[1, CONSTRAINTS, CONSTRAINTS + 1]);
             bytes = [constraints(random, count, PREDICATES, &bytes), bytes].concat();
         }
+        7 | 8 => bytes = with_one_supplier_more(random, &bytes),
         _ => {
             for _ in 0..random.within(&(1..=3)) {
                 let place = random.below(bytes.len());
@@ -270,6 +298,17 @@ pub fn damaged(random: &mut Random, mut bytes: Vec<u8>) -> Vec<u8> {
         }
     }
     bytes
+}
+
+/// The bytes with one supplier more before some entry or behind the last: 0, the one in
+/// force, or any.
+fn with_one_supplier_more(random: &mut Random, bytes: &[u8]) -> Vec<u8> {
+    let before = random.below(entries(bytes).count() + 1);
+    let (before, behind) =
+        bytes.split_at(entries(bytes).take(before).map(<[u8]>::len).sum::<usize>());
+    let any = random.number() as u8;
+    let supplier = random.pick(&[0, in_force(before), any]);
+    [before, &[SUPPLIER, supplier], behind].concat()
 }
 
 /// A byte that is a kind, a small number, or anything.

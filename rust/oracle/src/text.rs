@@ -4,11 +4,12 @@
 //! decimal, a single space before each, and one line feed.
 
 use crate::kinds::{kind_of, word_of};
-use crate::refusal::{Refusal, MISSPELT_LINE, OUTPUT_TOO_SHORT, UNKNOWN_WORD};
+use crate::output::write;
+use crate::refusal::{Refusal, MISSPELT_LINE, UNKNOWN_WORD};
 use crate::table::{entries, read, Entry, Kind, Table, TABLE_BYTES};
 
 /// The longest text that a table has.
-pub const TEXT_BYTES: usize = 9651;
+pub const TEXT_BYTES: usize = 12_979;
 
 /// Writes the text of a table to the front of `out` and answers how many bytes
 /// that took.
@@ -112,7 +113,7 @@ fn value(piece: &[u8]) -> Option<u32> {
     })
 }
 
-/// Refuses with one of 3 to 7 and 14, at its line, the first bad entry of spelled bytes.
+/// Refuses with one of 3 to 7, 14 and 15, at its line, the first bad entry of spelled bytes.
 fn check_entries(bytes: &[u8]) -> Result<(), Refusal> {
     let mut table = Table::empty();
     let (mut place, mut line) = (0, 1);
@@ -122,11 +123,4 @@ fn check_entries(bytes: &[u8]) -> Result<(), Refusal> {
         line += 1;
     }
     Ok(())
-}
-
-/// Writes `bytes` to the front of `out`, or refuses with 11 if that is shorter.
-fn write(bytes: &[u8], out: &mut [u8]) -> Result<usize, Refusal> {
-    let front = out.get_mut(..bytes.len()).ok_or(Refusal::of_request(OUTPUT_TOO_SHORT))?;
-    front.copy_from_slice(bytes);
-    Ok(bytes.len())
 }

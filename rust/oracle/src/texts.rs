@@ -1,6 +1,6 @@
 //! Texts of any entries, random texts, damaged ones, and a mixture of all sorts.
 
-use crate::kinds::{kind_of, word_of, Group, ON_TWO_PREDICATES, WORDS};
+use crate::kinds::{kind_of, word_of, Group, ON_TWO_PREDICATES, SUPPLIER, WORDS};
 use crate::random::Random;
 use crate::tables;
 
@@ -100,7 +100,7 @@ pub fn damaged(random: &mut Random, text: &[u8]) -> Vec<u8> {
         return glued(random);
     }
     let (one, other) = (random.below(lines.len()), random.below(lines.len()));
-    match random.below(16) {
+    match random.below(17) {
         0 => lines.swap(one, other),
         1 => lines[one] = Vec::new(),
         2 => lines[one] = lines[other].clone(),
@@ -109,6 +109,7 @@ pub fn damaged(random: &mut Random, text: &[u8]) -> Vec<u8> {
         5 => lines.iter_mut().for_each(|line| line.insert(line.len() - 1, b'\r')),
         6 => return drop_end(random, text),
         7 => lines.extend_from_within(..),
+        16 => lines.insert(one, supplier(random)),
         8 | 9 => {
             spoil(random, &mut lines[one]);
             spoil(random, &mut lines[one]);
@@ -120,6 +121,12 @@ pub fn damaged(random: &mut Random, text: &[u8]) -> Vec<u8> {
         _ => spoil(random, &mut lines[one]),
     }
     lines.concat()
+}
+
+/// The line of a supplier.
+fn supplier(random: &mut Random) -> Vec<u8> {
+    let any = random.number() as u8;
+    spelling(&[SUPPLIER, random.pick(&[0, 1, any])])
 }
 
 /// Drops the last line feed, or everything from some place on.

@@ -10,8 +10,8 @@ use pierstride_oracle::calls::random_call;
 use pierstride_oracle::kinds::{COMPARISONS, ON_TWO_ROWS};
 use pierstride_oracle::random::Random;
 use pierstride_oracle::tables::{self, Mixture};
-use pierstride_oracle::{crafted, possible, possible_by, read, texts, verdict, verdict_by};
-use pierstride_oracle::{Choice, Refusal};
+use pierstride_oracle::{crafted, possible, possible_by, read, supplied, texts};
+use pierstride_oracle::{verdict, verdict_by, Choice, Refusal};
 
 use share::Share;
 
@@ -82,7 +82,7 @@ fn random_tables_tell_one_choice_from_two() {
     let full = [&tables::SMALL_WITH_SETS, &tables::WALKED, &tables::WALKED_WITH_SETS];
     for shape in tables::SHAPES.iter().chain(full) {
         let walks = all.walks;
-        (0..60).for_each(|_| all.count(&tables::table(&mut random, shape)));
+        (0..300).for_each(|_| all.count(&tables::table(&mut random, shape)));
         let walks = Share { differ: all.walks.differ - walks.differ, of: all.walks.of - walks.of };
         walks.require(8, &format!("walks of tables of {:?} rows", shape.rows));
     }
@@ -104,7 +104,8 @@ impl Shares {
     fn count(&mut self, bytes: &[u8]) {
         let table = read(bytes).expect("an accepted table");
         let rows = table.rows.len() as u32;
-        let entries = texts::entries(bytes).skip(table.constraints.len());
+        let plain = supplied::without_suppliers(bytes);
+        let entries = texts::entries(&plain).skip(table.constraints.len());
         for (number, entry) in (0..).zip(entries) {
             let differs = if number < rows {
                 sets_differ(bytes, number, 0, 0)

@@ -5,7 +5,7 @@ use pierstride_oracle::limits::Probe;
 use pierstride_oracle::random::Random;
 use pierstride_oracle::tables::{self, Mixture};
 use pierstride_oracle::{crafted, laws, limits, notebook, read};
-use pierstride_oracle::{Part, Refusal, Verdict, CONSTRAINTS, QUESTIONS, ROWS};
+use pierstride_oracle::{Part, Refusal, Verdict, CONSTRAINTS, QUESTIONS, ROWS, TABLE_BYTES};
 
 #[test]
 fn answers_the_notebook() {
@@ -54,7 +54,16 @@ fn scan(probe: &Probe, table: &[u8]) -> Option<Refusal> {
     let end = start + 1 + probe.group.length;
     let at_kind_byte = |number| Some(Refusal { number, place: start });
     let (constraints, rows, questions) = (probe.constraints, probe.rows, probe.questions);
+    if probe.announced {
+        let at_supplier = |number| Some(Refusal { number, place: start - 2 });
+        match probe.group.part {
+            _ if questions > 0 => return at_supplier(5),
+            Part::Rows => {}
+            _ => return at_supplier(15),
+        }
+    }
     match probe.group.part {
+        Part::Suppliers if questions > 0 => return at_kind_byte(5),
         Part::Constraints if rows + questions > 0 => return at_kind_byte(5),
         Part::Rows if questions > 0 => return at_kind_byte(5),
         Part::Rows if rows == ROWS => return at_kind_byte(6),
@@ -65,9 +74,12 @@ fn scan(probe: &Probe, table: &[u8]) -> Option<Refusal> {
     if table.len() < end {
         return at_kind_byte(2);
     }
+    if probe.group.part == Part::Suppliers {
+        return at_kind_byte(15);
+    }
     let bad = (start + 1..end).find(|&place| usize::from(table[place]) >= probe.limit());
     if let Some(place) = bad {
-        return Some(Refusal { number: probe.group.refusal(), place });
+        return probe.group.refusal().map(|number| Refusal { number, place });
     }
     (end < table.len()).then_some(Refusal { number: 1, place: end })
 }
@@ -127,13 +139,14 @@ fn accepts_random_tables_of_every_shape() {
     }
 }
 
-/// The longest table has 1055 bytes: its first row can name no row.
+/// The longest table has 1567 bytes: its first row can name no row.
 #[test]
 fn reads_the_longest_table() {
     let accepted = |table: &Vec<u8>| read(table).is_ok();
     let limits = limits::tables();
     let longest = limits.iter().filter(|table| accepted(table)).map(Vec::len).max();
-    assert_eq!(longest, Some(1055));
+    assert_eq!(longest, Some(TABLE_BYTES - 1));
+    assert_eq!(TABLE_BYTES, 1568);
 }
 
 #[test]

@@ -64,13 +64,15 @@ fn comes_back_to_every_accepted_table() {
 }
 
 /// In the longest text every line is the longest that can stand in its place, so a text of
-/// 32 constraints, 256 rows and 64 questions is as long as all of these together.
+/// 32 constraints, 256 rows, each with a supplier before it, and 64 questions is as long as
+/// all of these together.
 #[test]
 fn writes_the_longest_text() {
     let constraints = CONSTRAINTS * longest_line(Part::Constraints, 0);
+    let suppliers = ROWS * longest_line(Part::Suppliers, 0);
     let rows: usize = (0..ROWS).map(|before| longest_line(Part::Rows, before)).sum();
     let questions = QUESTIONS * longest_line(Part::Questions, ROWS);
-    assert_eq!(constraints + rows + questions, TEXT_BYTES);
+    assert_eq!(constraints + suppliers + rows + questions, TEXT_BYTES);
     let table = crafted::longest_text();
     assert_eq!(to_text(&table, &mut [0; TEXT_BYTES]), Ok(TEXT_BYTES));
 }

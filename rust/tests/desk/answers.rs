@@ -41,6 +41,15 @@ question 2  both 0 1
     ("possible 4 --yes 0 --no 1", 0, "grant\n"),
     ("possible 4 --no 0,1", 0, "deny\n"),
     ("possible 4 --no 0 --yes 1,22", 0, "deny\n"),
+    ("suppliers 4", 0, "supplier 0\n"),
+    ("suppliers", 0, "\
+row 0: supplier 0
+row 1: supplier 0
+row 2: supplier 0
+row 3: supplier 0
+row 4: supplier 0
+row 5: supplier 0
+"),
     ("ask", 1, "\
 question 0: fails at predicates 0 and 1 yes, all others no, after 5 visits
 question 1: holds after 5 visits
@@ -82,6 +91,7 @@ const OBJECTS: &[(&str, i32, &str)] = &[
     ("decide 2", 0, r#"{"row":2,"yes":[],"decision":"unspecified"}"#),
     ("possible 2 --no 0,1", 0, r#"{"row":2,"yes":[],"no":[0,1],"possible":["unspecified"]}"#),
     ("possible 4", 0, r#"{"row":4,"yes":[],"no":[],"possible":["deny","grant","conflict"]}"#),
+    ("suppliers 4", 0, r#"{"row":4,"suppliers":[0]}"#),
     ("ask 0", 1, r#"{"question":0,"verdict":"fails","visits":5,"yes":[0,1]}"#),
     ("ask 1", 0, r#"{"question":1,"verdict":"holds","visits":5}"#),
     ("ask 2 --budget 4", 1, r#"{"question":2,"verdict":"unfinished","visits":4}"#),
@@ -224,6 +234,8 @@ fn the_empty_table_is_a_table() {
         ("bytes --json", "{\"bytes\":\"\"}\n"),
         ("show", ""),
         ("show --json", "{\"constraints\":[],\"rows\":[],\"questions\":[]}\n"),
+        ("suppliers", "the table has no rows\n"),
+        ("suppliers --json", "{\"rows\":[]}\n"),
         ("ask", "the table has no questions\n"),
         ("ask --json", "{\"verdicts\":[]}\n"),
     ];
@@ -232,7 +244,7 @@ fn the_empty_table_is_a_table() {
             assert_eq!(outcome, Outcome::answer(0, out), "{asked}");
         }
     }
-    for asked in ["decide 0", "possible 0", "strike 0", "picture 0", "ask 0"] {
+    for asked in ["decide 0", "possible 0", "suppliers 0", "strike 0", "picture 0", "ask 0"] {
         for outcome in every_way(asked, nothing) {
             let what = if asked == "ask 0" { "question" } else { "row" };
             let said = outcome.err().starts_with(&format!("refused 8: there is no {what} 0; "));
@@ -306,6 +318,99 @@ fn constraints_are_shown_and_kept() {
     assert_eq!(struck, Outcome::answer(0, CONSTRAINED));
 }
 
+/// Offices 12 and 3 lend their terms, which row 2 joins and nobody's row 3 makes whole; row 4
+/// is office 12's again.
+const SUPPLIED: &str = "\
+only-if 0 2
+supplier 12
+grant-if 1
+supplier 3
+deny-if 0
+knowledge-join 0 1
+supplier 0
+closed-default 2
+supplier 12
+negation 0
+knowledge-at-or-below 3 2
+";
+
+/// What is asked about that table, and the words of the answer; the question fails.
+#[rustfmt::skip]
+const ON_SUPPLIED: &[(&str, i32, &str)] = &[
+    ("check", 0, "5 rows, 1 question, 3 predicates\n"),
+    ("text", 0, SUPPLIED),
+    ("show", 0, "\
+constraint               only-if 0 2
+row 0       supplier 12  grant-if 1
+row 1       supplier 3   deny-if 0
+row 2       supplier 3   knowledge-join 0 1
+row 3       supplier 0   closed-default 2
+row 4       supplier 12  negation 0
+question 0               knowledge-at-or-below 3 2
+"),
+    ("show --json", 0, concat!(
+        r#"{"constraints":[{"text":"only-if 0 2"}],"#,
+        r#""rows":[{"row":0,"supplier":12,"text":"grant-if 1"},"#,
+        r#"{"row":1,"supplier":3,"text":"deny-if 0"},"#,
+        r#"{"row":2,"supplier":3,"text":"knowledge-join 0 1"},"#,
+        r#"{"row":3,"supplier":0,"text":"closed-default 2"},"#,
+        r#"{"row":4,"supplier":12,"text":"negation 0"}],"#,
+        r#""questions":[{"question":0,"text":"knowledge-at-or-below 3 2"}]}"#, "\n",
+    )),
+    ("suppliers 0", 0, "supplier 12\n"),
+    ("suppliers 3", 0, "suppliers 0, 3 and 12\n"),
+    ("suppliers 3 --json", 0, "{\"row\":3,\"suppliers\":[0,3,12]}\n"),
+    ("suppliers", 0, "\
+row 0: supplier 12
+row 1: supplier 3
+row 2: suppliers 3 and 12
+row 3: suppliers 0, 3 and 12
+row 4: supplier 12
+"),
+    ("suppliers --json", 0, concat!(
+        r#"{"rows":[{"row":0,"suppliers":[12]},{"row":1,"suppliers":[3]},"#,
+        r#"{"row":2,"suppliers":[3,12]},{"row":3,"suppliers":[0,3,12]},"#,
+        r#"{"row":4,"suppliers":[12]}]}"#, "\n",
+    )),
+    // Deciding and the walk do not look at them.
+    ("decide 3 --yes 1", 0, "grant\n"),
+    ("ask 0", 1, "fails at all predicates no, after 3 visits\n"),
+    ("picture 3 --yes 1", 0, "\
+digraph \"row 3\" {
+    graph [ordering=out, fontname=\"Helvetica\"];
+    node [shape=box, style=filled, fillcolor=white, fontname=\"Helvetica\"];
+    label=\"predicate 1 yes, all others no\";
+    3 [label=\"row 3, supplier 0\\nclosed-default 2\\ndecides grant\", fillcolor=\"#c8e6c9\"];
+    2 [label=\"row 2, supplier 3\\nknowledge-join 0 1\\ndecides grant\", color=\"0.8540,0.9,0.7\", penwidth=3, fillcolor=\"#c8e6c9\"];
+    1 [label=\"row 1, supplier 3\\ndeny-if 0\\ndecides unspecified\", color=\"0.8540,0.9,0.7\", penwidth=3, fillcolor=\"#eeeeee\"];
+    0 [label=\"row 0, supplier 12\\ngrant-if 1\\ndecides grant\", color=\"0.4160,0.9,0.7\", penwidth=3, fillcolor=\"#c8e6c9\"];
+    3 -> 2;
+    2 -> 0;
+    2 -> 1;
+}
+"),
+];
+
+#[test]
+fn suppliers_are_shown_and_kept() {
+    let bytes = texts::spelled_by(SUPPLIED.as_bytes()).expect("a text");
+    let forms = [&bytes[..], SUPPLIED.as_bytes()];
+    for &(asked, status, out) in ON_SUPPLIED {
+        for outcome in every_way(asked, forms) {
+            assert_eq!(outcome, Outcome::answer(status, out), "{asked}");
+        }
+    }
+    // Where a row goes, a supplier is named for what is left, or no more.
+    let longer =
+        SUPPLIED.replace("knowledge-join", "supplier 12\ndeny\nsupplier 3\nknowledge-join");
+    let longer = longer.replace("default 2", "default 3").replace("below 3 2", "below 4 3");
+    let struck = answer_on(longer.as_bytes(), &["strike", "-", "2"]);
+    assert_eq!(struck, Outcome::answer(0, SUPPLIED));
+    let left = SUPPLIED.replace("supplier 12\nnegation 0\n", "");
+    let struck = answer_on(SUPPLIED.as_bytes(), &["strike", "-", "4"]);
+    assert_eq!(struck, Outcome::answer(0, left));
+}
+
 #[test]
 fn the_largest_table_is_a_table() {
     let table = crafted::longest_text();
@@ -354,6 +459,7 @@ fn the_notebook_is_answered() {
                 Request::Ask { question: Some(question), budget: Some(budget) }
             }
             Call::Strike { row, .. } => Request::Strike { row },
+            Call::Suppliers { row, .. } => Request::Suppliers { row: Some(row) },
             _ => continue,
         };
         let text = text_of(&table).into_bytes();

@@ -1,8 +1,10 @@
 //! What the program must answer to a request, by the oracle's implementation.
 
 use pierstride_oracle::kinds::{COMPARISONS, ON_ONE_ROW, ON_TWO_ROWS};
+use pierstride_oracle::supplied::{suppliers_of, without_suppliers};
 use pierstride_oracle::{
-    decide, from_text, possible, read, strike, texts, verdict, Refusal, Verdict, TABLE_BYTES,
+    decide, from_text, possible, read, strike, suppliers, texts, verdict, Refusal, Verdict,
+    SUPPLIERS, TABLE_BYTES,
 };
 
 use crate::harness::Outcome;
@@ -18,6 +20,7 @@ pub enum Request {
     Show,
     Decide { row: u32, yes: u32 },
     Possible { row: u32, yes: u32, no: u32 },
+    Suppliers { row: Option<u32> },
     Ask { question: Option<u32>, budget: Option<u32> },
     Strike { row: u32 },
 }
@@ -33,8 +36,8 @@ pub struct Expected {
 /// What must come back in words.
 pub enum Words {
     Exactly(Vec<u8>),
-    /// Each line's number and entry.
-    Listing(Vec<(String, String)>),
+    /// Each line's number, its supplier if there is a column for these, and its entry.
+    Listing(Vec<[String; 3]>),
     /// Verdicts, those on all questions with the questions' numbers.
     Verdicts(Vec<(Option<u32>, Verdict)>),
     Refused(Said),
@@ -98,6 +101,7 @@ impl Request {
             Request::Possible { row, yes, no } => {
                 ("possible", Some(row), vec![("--yes", list(yes)), ("--no", list(no))])
             }
+            Request::Suppliers { row } => ("suppliers", row, vec![]),
             Request::Ask { question, budget } => {
                 let budget = number(budget).map(|budget| ("--budget", budget));
                 ("ask", question, budget.into_iter().collect())
@@ -137,6 +141,7 @@ impl Request {
             Request::Possible { row, yes, no } => {
                 remaining(row, yes, no, possible(table, row, yes | no, yes)?.mask())
             }
+            Request::Suppliers { row } => whose(table, row)?,
             Request::Ask { question, budget } => ask(table, question, budget)?,
             Request::Strike { row } => {
                 let mut rest = vec![0; table.len()];
@@ -156,6 +161,7 @@ impl Request {
             }
             (8, Request::Decide { row, .. })
             | (8, Request::Possible { row, .. })
+            | (8, Request::Suppliers { row: Some(row) })
             | (8, Request::Strike { row }) => said::not_there("row", &row.to_string(), rows),
             (9, Request::Strike { row }) => said::named(table, row),
             (10, Request::Decide { yes, .. }) => no_predicate(yes),
@@ -204,33 +210,72 @@ fn written(table: &[u8], as_text: bool) -> Expected {
     }
 }
 
+/// The table without suppliers, but where it has some each row with its own.
 fn show(table: &[u8]) -> Expected {
-    let text = text_of(table);
+    let text = text_of(&without_suppliers(table));
     let lines: Vec<&str> = text.lines().collect();
     let read = read(table).expect("an accepted table");
     let (constraints, rest) = lines.split_at(read.constraints.len());
     let (rows, questions) = rest.split_at(read.rows.len());
-    let numbered = |what: &str, lines: &[&str]| -> Vec<(String, String)> {
-        let number =
-            |(number, line): (usize, &&str)| (format!("{what} {number}"), line.to_string());
-        lines.iter().enumerate().map(number).collect()
+    let suppliers = suppliers_of(table);
+    let names_suppliers = suppliers.iter().any(|&supplier| supplier != 0);
+    let supplier_of = |row: usize| names_suppliers.then(|| suppliers[row]);
+
+    let mut listing = Vec::new();
+    let mut objects = [Vec::new(), Vec::new(), Vec::new()];
+    let mut put = |part: usize, label: String, supplier: Option<u8>, keys: String, line: &str| {
+        let whose = supplier.map_or(String::new(), |supplier| format!("supplier {supplier}"));
+        let key = supplier.map_or(String::new(), |supplier| format!(r#""supplier":{supplier},"#));
+        listing.push([label, whose, line.to_string()]);
+        objects[part].push(format!(r#"{{{keys}{key}"text":{}}}"#, json::quoted(line)));
     };
-    let objects = |what: &str, lines: &[&str]| -> String {
-        let object = |(number, line): (usize, &&str)| {
-            format!(r#"{{"{what}":{number},"text":{}}}"#, json::quoted(line))
-        };
-        lines.iter().enumerate().map(object).collect::<Vec<_>>().join(",")
-    };
-    let unnumbered = constraints.iter().map(|line| ("constraint".to_string(), line.to_string()));
-    let numbered = [numbered("row", rows), numbered("question", questions)].concat();
-    let listing = unnumbered.chain(numbered).collect();
-    let constraints: Vec<String> =
-        constraints.iter().map(|line| format!(r#"{{"text":{}}}"#, json::quoted(line))).collect();
-    let constraints = constraints.join(",");
-    let (rows, questions) = (objects("row", rows), objects("question", questions));
+    for line in constraints {
+        put(0, "constraint".to_string(), None, String::new(), line);
+    }
+    for (row, line) in rows.iter().enumerate() {
+        put(1, format!("row {row}"), supplier_of(row), format!(r#""row":{row},"#), line);
+    }
+    for (number, line) in questions.iter().enumerate() {
+        put(2, format!("question {number}"), None, format!(r#""question":{number},"#), line);
+    }
+    let [constraints, rows, questions] = objects.map(|objects| objects.join(","));
     let object =
         format!(r#"{{"constraints":[{constraints}],"rows":[{rows}],"questions":[{questions}]}}"#);
     answered(0, Words::Listing(listing), object)
+}
+
+/// The suppliers of the rows that a row reaches, or each row.
+fn whose(table: &[u8], one: Option<u32>) -> Result<Expected, Refusal> {
+    let count = read(table)?.rows.len() as u32;
+    let rows = one.map_or((0..count).collect(), |row| vec![row]);
+    let (mut words, mut objects) = (String::new(), Vec::new());
+    for row in rows {
+        let mut list = vec![0; SUPPLIERS];
+        let length = suppliers(table, row, &mut list)?;
+        list.truncate(length);
+        let numbers: Vec<u32> = list.into_iter().map(u32::from).collect();
+        objects.push(format!(r#"{{"row":{row},"suppliers":{}}}"#, json::array(&numbers)));
+        let number = one.map_or(format!("row {row}: "), |_| String::new());
+        words += &format!("{number}{}\n", suppliers_words(&numbers));
+    }
+    let object = match one {
+        Some(_) => objects.concat(),
+        None => format!(r#"{{"rows":[{}]}}"#, objects.join(",")),
+    };
+    if objects.is_empty() {
+        words = "the table has no rows\n".to_string();
+    }
+    Ok(answered(0, Words::Exactly(words.into()), object))
+}
+
+/// A list of suppliers in words.
+fn suppliers_words(suppliers: &[u32]) -> String {
+    let suppliers: Vec<String> = suppliers.iter().map(u32::to_string).collect();
+    match &suppliers[..] {
+        [] => panic!("every row reaches itself"),
+        [one] => format!("supplier {one}"),
+        [some @ .., last] => format!("suppliers {} and {last}", some.join(", ")),
+    }
 }
 
 fn remaining(row: u32, yes: u32, no: u32, set: u32) -> Expected {
@@ -303,14 +348,17 @@ fn answer_of(outcome: &Outcome) -> &str {
     outcome.out()
 }
 
-/// Every line of a listing has the number and the entry, and all entries stand below one
-/// another, two spaces behind the longest number.
-fn check_listing(out: &str, expected: &[(String, String)]) {
+/// Every line of a listing has the number, the supplier if any line has one, and the entry,
+/// and each of these stands below the other, two spaces behind the longest one before it.
+fn check_listing(out: &str, expected: &[[String; 3]]) {
     let lines: Vec<&str> = out.lines().collect();
-    let widest = expected.iter().map(|(number, _)| number.len()).max().unwrap_or(0);
-    let listed: Vec<String> =
-        expected.iter().map(|(number, entry)| format!("{number:widest$}  {entry}")).collect();
-    assert_eq!(lines, listed);
+    let widest = |column: usize| expected.iter().map(|line| line[column].len()).max().unwrap_or(0);
+    let (first, second) = (widest(0), widest(1));
+    let line = |[number, supplier, entry]: &[String; 3]| match second {
+        0 => format!("{number:first$}  {entry}"),
+        _ => format!("{number:first$}  {supplier:second$}  {entry}"),
+    };
+    assert_eq!(lines, expected.iter().map(line).collect::<Vec<_>>());
     assert!(out.is_empty() || out.ends_with('\n'), "{out:?}");
 }
 

@@ -12,17 +12,26 @@ use std::sync::atomic::{AtomicUsize, Ordering};
 pub const ROOT: &str = concat!(env!("CARGO_MANIFEST_DIR"), "/..");
 
 /// Every verb, with operands behind the table that suit table A.
-pub const VERBS: [(&str, &[&str]); 9] = [
+pub const VERBS: [(&str, &[&str]); 10] = [
     ("check", &[]),
     ("text", &[]),
     ("bytes", &[]),
     ("show", &[]),
     ("decide", &["4"]),
     ("possible", &["4"]),
+    ("suppliers", &[]),
     ("ask", &[]),
     ("strike", &["4"]),
     ("picture", &["4"]),
 ];
+
+/// The verbs whose number behind the table may be missing, and what it is the number of.
+pub const NUMBER_OPTIONAL: [(&str, &str); 2] = [("suppliers", "ROW"), ("ask", "QUESTION")];
+
+/// Whether a verb's number behind the table may be missing.
+pub fn is_number_optional(verb: &str) -> bool {
+    NUMBER_OPTIONAL.iter().any(|(name, _)| *name == verb)
+}
 
 /// The verbs that write a table or a picture, and take `-o FILE`.
 pub const WRITING: [&str; 4] = ["text", "bytes", "strike", "picture"];

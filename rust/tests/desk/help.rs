@@ -1,6 +1,6 @@
 //! What the program says about itself.
 
-use crate::harness::{answer, Outcome, TABLE_A, VERBS, WRITING};
+use crate::harness::{answer, Outcome, NUMBER_OPTIONAL, TABLE_A, VERBS, WRITING};
 use crate::transcript::{steps, Session};
 
 /// What `desk VERB --help` says.
@@ -45,7 +45,10 @@ fn a_verb_s_help_says_what_it_takes() {
             assert!(listed && in_usage, "{option} is not in {help}");
         }
     }
-    assert!(help_of("ask").starts_with("usage: desk ask TABLE [QUESTION]"));
+    for (verb, number) in NUMBER_OPTIONAL {
+        let usage = format!("usage: desk {verb} TABLE [{number}]");
+        assert!(help_of(verb).starts_with(&usage), "{verb}");
+    }
 }
 
 /// The options that docs/DESK.md gives to a verb.

@@ -42,9 +42,8 @@ fn check_refused(asked: &[&str], said: &Said, objects: &mut Objects) {
 #[test]
 fn a_huge_row_is_not_there() {
     let mut objects = Objects::default();
-    for (number, verb) in
-        HUGE.iter().zip(["decide", "possible", "strike", "picture"].iter().cycle())
-    {
+    let verbs = ["decide", "possible", "suppliers", "strike", "picture"];
+    for (number, verb) in HUGE.iter().zip(verbs.iter().cycle()) {
         check_refused(&[verb, number], &said::not_there("row", number, 6), &mut objects);
     }
     objects.check();

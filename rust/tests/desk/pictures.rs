@@ -5,6 +5,7 @@ use std::process::Command;
 
 use pierstride_oracle::kinds::{ON_ONE_ROW, ON_TWO_ROWS};
 use pierstride_oracle::random::Random;
+use pierstride_oracle::supplied::suppliers_of;
 use pierstride_oracle::{crafted, decide, entry, read, tables};
 
 use crate::expected::{list, request_words, text_of, DECISIONS};
@@ -64,9 +65,17 @@ impl Asked {
         reached
     }
 
-    /// What stands in a row's box first: its number and its text.
+    /// A row's supplier, if the table names any.
+    fn supplier(&self, row: u32) -> Option<u8> {
+        let suppliers = suppliers_of(&self.table);
+        suppliers.iter().any(|&supplier| supplier != 0).then(|| suppliers[row as usize])
+    }
+
+    /// What stands in a row's box first: its number, its supplier and its text.
     fn label(&self, row: u32) -> String {
-        format!("row {row}\n{}", text_of(self.entry(row)).trim_end())
+        let supplier = self.supplier(row).map(|supplier| format!(", supplier {supplier}"));
+        let text = text_of(self.entry(row));
+        format!("row {row}{}\n{}", supplier.unwrap_or_default(), text.trim_end())
     }
 
     fn decision(&self, row: u32) -> Option<usize> {
@@ -78,8 +87,8 @@ impl Asked {
 /// A picture as `dot` understands it.
 #[derive(Default, Debug)]
 struct Drawn {
-    /// Each row's label and its colour.
-    boxes: BTreeMap<u32, (String, String)>,
+    /// Each row's label, the colour of its border, and its own.
+    boxes: BTreeMap<u32, (String, String, String)>,
     /// Each arrow's ends.
     arrows: Vec<(u32, u32)>,
 }
@@ -102,7 +111,8 @@ fn drawn(plain: &str) -> Vec<Drawn> {
         match &fields[0][..] {
             // node name x y width height label style shape color fillcolor
             "node" => {
-                let of_box = (fields[6].replace("\\n", "\n"), fields[10].clone());
+                let label = fields[6].replace("\\n", "\n");
+                let of_box = (label, fields[9].clone(), fields[10].clone());
                 assert_eq!(picture.boxes.insert(number(1), of_box), None, "{line}");
                 assert_eq!((&fields[7][..], &fields[8][..]), ("filled", "box"), "{line}");
             }
@@ -129,15 +139,25 @@ fn fields(line: &str) -> Vec<String> {
     fields
 }
 
-/// Which colour each decision has.
-type Colours = BTreeMap<usize, String>;
+/// Which colour each decision has, and which the border of each supplier's rows.
+#[derive(Default)]
+struct Colours {
+    decisions: BTreeMap<usize, String>,
+    suppliers: BTreeMap<u8, String>,
+}
+
+/// The border of a row whose supplier is 0, or whose table names none.
+const PLAIN: &str = "black";
 
 fn check(asked: &Asked, drawn: &Drawn, colours: &mut Colours) {
     let reached = asked.reached();
     let rows: BTreeSet<u32> = drawn.boxes.keys().copied().collect();
     assert_eq!(rows, reached, "boxes of {:?}", asked.arguments());
-    for (&row, (label, colour)) in &drawn.boxes {
+    for (&row, (label, border, colour)) in &drawn.boxes {
         check_box(asked, row, label, colour, colours);
+        let supplier = asked.supplier(row).unwrap_or(0);
+        let known = colours.suppliers.entry(supplier).or_insert_with(|| border.to_string());
+        assert_eq!(known, border, "{label:?} of {:?}", asked.arguments());
     }
     let expected: BTreeSet<(u32, u32)> = reached
         .iter()
@@ -158,7 +178,7 @@ fn check_box(asked: &Asked, row: u32, label: &str, colour: &str, colours: &mut C
         Some(decision) => {
             let decides = format!("\ndecides {}", DECISIONS[decision]);
             assert_eq!(rest, decides, "{label:?} of {:?}", asked.arguments());
-            let known = colours.entry(decision).or_insert_with(|| colour.to_string());
+            let known = colours.decisions.entry(decision).or_insert_with(|| colour.to_string());
             assert_eq!(known, colour, "{label:?} of {:?}", asked.arguments());
         }
         None => assert_eq!((rest, colour), ("", "white"), "{label:?}"),
@@ -175,12 +195,15 @@ fn check_pictures(asked: &[Asked]) {
     let pictures: String = asked.iter().map(both).collect();
     let drawn = drawn(&dot("-Tplain", &pictures));
     assert_eq!(drawn.len(), asked.len());
-    let mut colours = Colours::new();
+    let mut colours = Colours::default();
     for (asked, drawn) in asked.iter().zip(&drawn) {
         check(asked, drawn, &mut colours);
     }
-    let different: BTreeSet<&String> = colours.values().collect();
-    assert_eq!(different.len(), 4, "not one colour for each decision: {colours:?}");
+    let different: BTreeSet<&String> = colours.decisions.values().collect();
+    assert_eq!(different.len(), 4, "not one for each decision: {:?}", colours.decisions);
+    let different: BTreeSet<&String> = colours.suppliers.values().collect();
+    assert_eq!(different.len(), colours.suppliers.len(), "{:?}", colours.suppliers);
+    assert_eq!(colours.suppliers.get(&0).map(|border| &border[..]), Some(PLAIN));
     assert_eq!(dot("-Tsvg", &pictures).matches("<svg").count(), asked.len());
 }
 
@@ -219,6 +242,22 @@ fn the_largest_table_has_a_picture() {
     // Each row but the first names the one before it.
     assert_eq!(read.matches("->").count(), 255, "{read}");
     assert_eq!(read.matches("label=\"row ").count(), 256);
+}
+
+/// Every supplier has a border of its own.
+#[test]
+fn the_border_tells_the_supplier() {
+    let table = crafted::chain_of_rows(256);
+    let picture = answer_on(text_of(&table).as_bytes(), &["picture", "-", "255"]);
+    let borders: BTreeSet<&str> = picture
+        .out()
+        .split(" color=\"")
+        .skip(1)
+        .filter_map(|rest| rest.split('"').next())
+        .collect();
+    // Row 255 is supplier 0's, and its border is plain.
+    assert_eq!(borders.len(), 255, "{borders:?}");
+    assert_eq!(picture.out().matches(", penwidth=3]").count(), 255);
 }
 
 #[test]

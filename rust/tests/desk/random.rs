@@ -14,7 +14,7 @@ use crate::harness::answer_on;
 use crate::json::Objects;
 
 /// How many inputs each test makes; each is asked about in words and with an object.
-const INPUTS: usize = 120;
+const INPUTS: usize = 132;
 
 /// How many visits a walk may take.
 const QUICK_WALK: u32 = 2000;
@@ -82,7 +82,7 @@ fn request(random: &mut Random, input: &[u8], number: usize) -> Request {
     let row = near(random, rows);
     let question = near(random, questions);
     let (yes, no) = (mask(random), mask(random));
-    match number / 4 % 10 {
+    match number / 4 % 11 {
         0 => Request::Check,
         1 => Request::Text,
         2 => Request::Bytes,
@@ -91,6 +91,7 @@ fn request(random: &mut Random, input: &[u8], number: usize) -> Request {
         6 => Request::Possible { row, yes, no: no & !yes },
         7 => Request::Ask { question: None, budget: Some(random.below(300) as u32) },
         8 => Request::Ask { question: Some(question), budget: budget(random, &table, question) },
+        9 => Request::Suppliers { row: random.pick(&[Some(row), Some(row), None]) },
         _ => Request::Strike { row: unnamed(random, &table, row) },
     }
 }
@@ -174,7 +175,9 @@ impl Drop for OnPanic<'_> {
 
 /// Every verb must have answered on both forms, and have refused some of each.
 fn check_met(met: &BTreeMap<String, usize>) {
-    for verb in ["check", "text", "bytes", "show", "decide", "possible", "ask", "strike"] {
+    let verbs =
+        ["check", "text", "bytes", "show", "decide", "possible", "suppliers", "ask", "strike"];
+    for verb in verbs {
         for form in ["bytes", "text"] {
             let label = format!("{verb} {form} answered");
             assert!(met.contains_key(&label), "never met: {label}; but {met:?}");

@@ -46,6 +46,29 @@ const OF_TEXTS: &[(&str, u32, usize, &str)] = &[
     ("deny\ntruth-at-or-below 0 0\nonly-if 24 0\n", 5, 3,
      "`only-if 24 0` is a constraint after a question; \
       all constraints stand before all rows and questions"),
+    ("deny\ntruth-at-or-below 0 0\nsupplier 5\ndeny\n", 5, 3,
+     "`supplier 5` is a supplier after a question; all suppliers stand before all questions"),
+    ("supplier 5\nnegation 0\n", 4, 2, "`negation 0` names row 0; …"),
+    ("supplier 5\ndeny\nsupplier 6\nnegation 1\n", 4, 4,
+     "`negation 1` names row 1; a row may name row 0"),
+    ("supplier 0\ndeny\n", 15, 1,
+     "`supplier 0` names the supplier in force, which is 0 until one is named; \
+      a supplier stands only where it changes"),
+    ("supplier 5\ndeny\ndeny\nsupplier 5\ndeny\n", 15, 4,
+     "`supplier 5` names the supplier in force; a supplier stands only where it changes"),
+    ("supplier 5\ndeny\nsupplier 0\ndeny\nsupplier 0\ndeny\n", 15, 5,
+     "`supplier 0` names the supplier in force; a supplier stands only where it changes"),
+    ("deny\nsupplier 5\ntruth-at-or-below 0 0\n", 15, 2,
+     "`supplier 5` has a question behind it; a supplier stands right before a row"),
+    ("supplier 5\nnever-both 0 1\n", 15, 1,
+     "`supplier 5` has a constraint behind it; a supplier stands right before a row"),
+    ("supplier 5\nsupplier 6\ndeny\n", 15, 1,
+     "`supplier 5` has another supplier behind it; a supplier stands right before a row"),
+    ("deny\nsupplier 5\n", 15, 2,
+     "`supplier 5` has nothing behind it; a supplier stands right before a row"),
+    ("suplier 5\ndeny\n", 12, 1, "`suplier 5` …is no word; perhaps `supplier` was meant"),
+    ("supplier 256\ndeny\n", 12, 1, "`supplier 256` has the number 256; no number is above 255"),
+    ("supplier\ndeny\n", 13, 1, "`supplier` has 0 numbers; `supplier` takes 1 number: supplier"),
     ("grant-if 0\ngrand\n", 12, 2, "`grand` is no word; perhaps `grant` was meant"),
     ("deny\nDeny\n", 12, 2, "`Deny` is no word; …"),
     ("deny\nforbid-if 3\n", 12, 2, "`forbid-if…is no word; …"),
@@ -85,7 +108,7 @@ const OF_BYTES: &[(&str, u32, usize, &str)] = &[
     ("12", 1, 0, NO_KIND_12),
     ("00 FF", 1, 1,
      "`FF` is no kind; the kinds are 00 to 03, 10, 11, 20 to 23, 30 to 35, 38 to 3B, 40 to 43, \
-      50, 51"),
+      50, 51, 60"),
     ("33 00", 2, 0,
      "`33 00` (knowledge-join) is cut short; `knowledge-join` takes 2 numbers: row, row"),
     ("00 3B", 2, 1,
@@ -124,10 +147,33 @@ const OF_BYTES: &[(&str, u32, usize, &str)] = &[
     ("00 40 00 00 51 18 18", 5, 4,
      "`51 18 18` (only-if 24 24) is a constraint after a question; \
       all constraints stand before all rows and questions"),
+    ("00 60", 2, 1, "`60` (supplier) is cut short; `supplier` takes 1 number: supplier"),
+    ("60 05 20", 2, 2, "`20` (negation) is cut short; `negation` takes 1 number: row"),
+    ("60 05 00 60 06 30 00 01", 4, 7,
+     "`30 00 01` (truth-meet 0 1) names row 1; a row may name row 0"),
+    ("60 00 00", 15, 0,
+     "`60 00` (supplier 0) names the supplier in force, which is 0 until one is named; \
+      a supplier stands only where it changes"),
+    ("60 05 00 60 05 40", 15, 3,
+     "`60 05` (supplier 5) names the supplier in force; a supplier stands only where it changes"),
+    ("60 05 40", 15, 0,
+     "`60 05` (supplier 5) has a question behind it; a supplier stands right before a row"),
+    ("60 05 50 00 01", 15, 0,
+     "`60 05` (supplier 5) has a constraint behind it; a supplier stands right before a row"),
+    ("60 05 60 06 00", 15, 0,
+     "`60 05` (supplier 5) has another supplier behind it; a supplier stands right before a row"),
+    ("60 05 12", 15, 0,
+     "`60 05` (supplier 5) has what is no kind behind it; a supplier stands right before a row"),
+    ("60 05", 15, 0,
+     "`60 05` (supplier 5) has nothing behind it; a supplier stands right before a row"),
+    ("00 40 00 00 60", 5, 4,
+     "`60` (supplier) is a supplier after a question; \
+      all suppliers stand before all questions"),
 ];
 
 const NO_KIND_12: &str =
-    "`12` is no kind; the kinds are 00 to 03, 10, 11, 20 to 23, 30 to 35, 38 to 3B, 40 to 43, 50, 51";
+    "`12` is no kind; the kinds are 00 to 03, 10, 11, 20 to 23, 30 to 35, 38 to 3B, 40 to 43, 50, 51, \
+     60";
 
 /// Checks the words of a refusal, in which what an ellipsis stands for may be anything.
 fn check_message(said: &str, pattern: &str) {
@@ -286,7 +332,8 @@ fn every_verb_gives_the_table_s_refusal_first() {
             assert_eq!(answer(&words(verb, file, rest)), expected, "{verb}");
         }
         // Before a row or question that is not there, and a predicate that there is not.
-        for asked in ["decide 99 --yes 99", "possible 99 --no 99", "strike 99", "ask 99"] {
+        let asked = ["decide 99 --yes 99", "possible 99 --no 99", "strike 99", "ask 99"];
+        for asked in asked.into_iter().chain(["suppliers 99"]) {
             let asked: Vec<&str> = asked.split(' ').collect();
             let outcome = answer(&words(asked[0], file, &asked[1..]));
             assert_eq!(outcome, Outcome::complaint(2, &message[..]), "{asked:?}");
@@ -296,9 +343,10 @@ fn every_verb_gives_the_table_s_refusal_first() {
 
 /// What is asked about table A in vain, and the words of the refusal.
 #[rustfmt::skip]
-const IN_VAIN: [(&str, &str); 16] = [
+const IN_VAIN: [(&str, &str); 17] = [
     ("decide 6", "8: there is no row 6; the table has rows 0 to 5"),
     ("possible 6", "8: there is no row 6; the table has rows 0 to 5"),
+    ("suppliers 6", "8: there is no row 6; the table has rows 0 to 5"),
     ("strike 6", "8: there is no row 6; the table has rows 0 to 5"),
     ("picture 6", "8: there is no row 6; the table has rows 0 to 5"),
     ("picture 256 --yes 0", "8: there is no row 256; the table has rows 0 to 5"),

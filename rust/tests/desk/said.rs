@@ -1,7 +1,8 @@
 //! What a refusal must say, as far as docs/DESK.md settles it: to the letter where the page
 //! has words for the case, and else its number and place, the entry, and what was found.
 
-use pierstride_oracle::kinds::{word_of, Group, BOTH, IF_PREDICATE, NOT, ON_TWO_PREDICATES};
+use pierstride_oracle::kinds::{word_of, Group};
+use pierstride_oracle::kinds::{BOTH, IF_PREDICATE, NOT, ON_TWO_PREDICATES, SUPPLIER};
 use pierstride_oracle::{texts, Part, Refusal};
 
 use crate::expected::{is_text, names_row};
@@ -10,7 +11,7 @@ use crate::{json, misspelt};
 /// How a second line begins, which the refusal of bytes has that seem to be meant as a text.
 pub const MEANT_AS_TEXT: &str = "if this is meant as a text: ";
 
-pub const KINDS: &str = "00 to 03, 10, 11, 20 to 23, 30 to 35, 38 to 3B, 40 to 43, 50, 51";
+pub const KINDS: &str = "00 to 03, 10, 11, 20 to 23, 30 to 35, 38 to 3B, 40 to 43, 50, 51, 60";
 
 /// More than a refusal needs, and little on a terminal.
 pub const LONGEST: usize = 1000;
@@ -169,11 +170,14 @@ fn shown(entry: &[u8]) -> String {
     }
 }
 
-/// A bad entry, and what stands before it.
+/// A bad entry, what stands before it, and what stands right behind it.
 struct Entry<'a> {
     bytes: &'a [u8],
     rows: usize,
     questions: usize,
+    /// The last supplier that is named before it.
+    supplier: Option<u8>,
+    next: Option<&'a [u8]>,
     shown: String,
 }
 
@@ -183,7 +187,9 @@ impl<'a> Entry<'a> {
         let entries = entries(bytes);
         let before = |part| entries[..number].iter().filter(|entry| part_of(entry) == part).count();
         let (rows, questions) = (before(Part::Rows), before(Part::Questions));
-        Entry { bytes: entries[number], rows, questions, shown }
+        let supplier = entries[..number].iter().rev().find(|entry| entry[0] == SUPPLIER);
+        let (supplier, next) = (supplier.map(|entry| entry[1]), entries.get(number + 1).copied());
+        Entry { bytes: entries[number], rows, questions, supplier, next, shown }
     }
 
     fn message(&self, refusal: u32) -> Message {
@@ -198,6 +204,7 @@ impl<'a> Entry<'a> {
             14 => {
                 Whole(format!("{shown} is a 33rd constraint; a table has at most 32 constraints"))
             }
+            15 => Whole(format!("{shown} {}", self.idle())),
             _ => panic!("reading gives no refusal {refusal}"),
         }
     }
@@ -211,7 +218,31 @@ impl<'a> Entry<'a> {
             (Part::Constraints, _) => {
                 "a constraint after a question; all constraints stand before all rows and questions"
             }
+            (Part::Suppliers, _) => {
+                "a supplier after a question; all suppliers stand before all questions"
+            }
             _ => "a row after a question; all rows stand before all questions",
+        }
+    }
+
+    /// Refusal 15, behind the entry.
+    fn idle(&self) -> String {
+        let behind = match self.next.map(|next| Group::of(next[0]).map(|group| group.part)) {
+            None => "nothing",
+            Some(None) => "what is no kind",
+            Some(Some(Part::Constraints)) => "a constraint",
+            Some(Some(Part::Suppliers)) => "another supplier",
+            Some(Some(Part::Rows)) => "a row",
+            Some(Some(Part::Questions)) => "a question",
+        };
+        match (self.supplier, self.bytes[1]) {
+            (None, 0) => "names the supplier in force, which is 0 until one is named; \
+                          a supplier stands only where it changes"
+                .to_string(),
+            (Some(supplier), named) if supplier == named => {
+                "names the supplier in force; a supplier stands only where it changes".to_string()
+            }
+            _ => format!("has {behind} behind it; a supplier stands right before a row"),
         }
     }
 
@@ -232,6 +263,7 @@ impl<'a> Entry<'a> {
                 Part::Constraints => {
                     Whole(format!("{found}a constraint may name {}", numbered(what, limit)))
                 }
+                Part::Suppliers => unreachable!("every number is a supplier's"),
             },
         }
     }
@@ -246,6 +278,7 @@ fn part_of(entry: &[u8]) -> Part {
 fn named_by(kind: u8) -> &'static str {
     match kind {
         NOT | BOTH => "question",
+        SUPPLIER => "supplier",
         _ if IF_PREDICATE.contains(&kind) || ON_TWO_PREDICATES.contains(&kind) => "predicate",
         _ => "row",
     }
@@ -292,7 +325,7 @@ pub fn named(table: &[u8], row: u32) -> Said {
     let mut names = Vec::new();
     for entry in entries(table) {
         let (what, number) = match part_of(entry) {
-            Part::Constraints => continue,
+            Part::Constraints | Part::Suppliers => continue,
             Part::Rows => ("row", &mut rows),
             Part::Questions => ("question", &mut questions),
         };

@@ -3,7 +3,8 @@
 use std::ffi::OsStr;
 use std::os::unix::ffi::OsStrExt;
 
-use crate::harness::{answer, words, Outcome, Scratch, TABLE_A, VERBS, WRITING};
+use crate::harness::{answer, is_number_optional, words, Outcome, Scratch};
+use crate::harness::{TABLE_A, VERBS, WRITING};
 use crate::said::{check_harmless, LONGEST};
 
 const TABLE: &str = TABLE_A[1];
@@ -137,7 +138,7 @@ fn a_missing_operand() {
 #[test]
 fn an_operand_too_many() {
     for (verb, rest) in VERBS {
-        let one_more = if verb == "ask" { &["1", "extra"][..] } else { &["extra"] };
+        let one_more = if is_number_optional(verb) { &["1", "extra"][..] } else { &["extra"] };
         let arguments = [&words(verb, TABLE, rest), one_more].concat();
         check_wrong_verb(&arguments, &["extra"]);
     }
@@ -147,7 +148,7 @@ fn an_operand_too_many() {
 fn a_number_that_is_none() {
     for number in ["x", "", "4x", "4.0", "0x4", "4,5", "four", " 4", "4 ", "-1"] {
         for (verb, rest) in VERBS {
-            if verb == "ask" || !rest.is_empty() {
+            if is_number_optional(verb) || !rest.is_empty() {
                 check_wrong_verb(&[verb, TABLE, number], &[number]);
             }
         }

@@ -39,6 +39,7 @@ fn try_on_table(table: &[u8], call: Call) -> Result<Answer, pierstride::Refusal>
             let start = part.as_ptr() as usize - table.as_ptr() as usize;
             Answer::Entry(start..start + part.len())
         }
+        Call::Suppliers { row, room } => lend(room, |out| pierstride::suppliers(table, row, out))?,
         Call::ToText { room } => lend(room, |out| pierstride::to_text(table, out))?,
         Call::FromText { .. } => unreachable!("the input is a text"),
     })
@@ -91,6 +92,11 @@ pub fn fields(input: &[u8], call: Call) -> Fields {
                 assert!(within, "row {row} is not within {input:02x?}: {reply:?}");
                 (reply.refusal, reply.place, vec![reply.start, reply.length])
             }
+            Call::Suppliers { row, room } => {
+                let mut out = vec![0; room];
+                let reply = raw::pier_suppliers(bytes, length, row, out.as_mut_ptr(), room);
+                (reply.refusal, reply.place, vec![reply.length])
+            }
             Call::ToText { room } => {
                 let mut out = vec![0; room];
                 let reply = raw::pier_to_text(bytes, length, out.as_mut_ptr(), room);
@@ -120,7 +126,8 @@ pub fn expected_fields(call: Call, answer: &Answer) -> Fields {
             let count = match call {
                 Call::Read | Call::Verdict { .. } => 3,
                 Call::Decide { .. } | Call::Possible { .. } => 1,
-                Call::Strike { .. } | Call::ToText { .. } | Call::FromText { .. } => 1,
+                Call::Strike { .. } | Call::Suppliers { .. } => 1,
+                Call::ToText { .. } | Call::FromText { .. } => 1,
                 Call::Entry { .. } => 2,
             };
             return (number, place, vec![0; count]);

@@ -7,6 +7,7 @@
 use super::{Desk, Tried};
 use crate::kinds::{Group, BOTH, COMPARISONS, IF_PREDICATE, ON_TWO_ROWS};
 use crate::random::Random;
+use crate::supplied::without_suppliers;
 use crate::texts::{entries, split_constraints};
 use crate::{possible_by, verdict_by, Choice, Decision, Part, Verdict};
 
@@ -73,10 +74,11 @@ fn end(verdict: Verdict) -> (Option<u32>, u32) {
 }
 
 /// The table in which every row and every question stands twice, that of number i under
-/// 2i and 2i + 1. A body names the first of the two, and of two equal numbers both: so no
+/// 2i and 2i + 1, and no supplier. A body names the first of the two, and of two equal numbers both: so no
 /// row's or question's body has equal numbers.
 fn doubled(bytes: &[u8]) -> Vec<u8> {
-    let (constraints, rest) = split_constraints(bytes);
+    let plain = without_suppliers(bytes);
+    let (constraints, rest) = split_constraints(&plain);
     let twins = |entry: &[u8]| {
         let mut twin = entry.to_vec();
         if !IF_PREDICATE.contains(&entry[0]) {

@@ -73,7 +73,12 @@ fn is_of_spelling(refused: Refusal) -> bool {
 
 /// An output that is shorter than what is to be written is refused, and every other
 /// is written to.
-fn check_rooms(desk: &mut Desk, input: &[u8], call: fn(usize) -> Call, written: &[u8]) {
+pub(super) fn check_rooms(
+    desk: &mut Desk,
+    input: &[u8],
+    call: impl Fn(usize) -> Call,
+    written: &[u8],
+) {
     let need = written.len();
     for room in (0..need.min(2)).chain(need.saturating_sub(2)..need + 3) {
         let expected = if room < need {
@@ -129,9 +134,10 @@ fn is_above_255(piece: &[u8]) -> bool {
     has_more_digits && digits.iter().all(u8::is_ascii_digit)
 }
 
-/// A refusal 3 to 7 or 14 speaks of the line of the first bad entry of the bytes that the
-/// text spells, and reading those bytes refuses them with its number. Lines behind
-/// that one change nothing, unless one is not well spelled.
+/// A refusal 3 to 7, 14 or 15 speaks of the line of the first bad entry of the bytes that
+/// the text spells, and reading those bytes refuses them with its number. Lines behind
+/// that one change nothing, unless one is not well spelled or, with 15, it is a row's. The
+/// lines before it, or before a supplier's right before it, are an accepted text.
 fn check_bad_entry(desk: &mut Desk, text: &[u8], refused: Refusal) {
     let Refusal { number, place } = refused;
     let bytes = spelled_by(text);
@@ -140,19 +146,25 @@ fn check_bad_entry(desk: &mut Desk, text: &[u8], refused: Refusal) {
     assert!((1..=lines.len()).contains(&place), "{refused:?} of {}", shown(text));
     let up_to = |count: usize| lines[..count].concat();
 
-    let before = desk.table_of(&up_to(place - 1));
+    let is_announced = place > 1 && lines[place - 2].starts_with(b"supplier ");
+    let before = desk.table_of(&up_to(place - 1 - usize::from(is_announced)));
     let before = before.unwrap_or_else(|_| panic!("{refused:?}, not the first: {}", shown(text)));
     assert!(bytes.starts_with(&before), "before line {place}: {}", shown(text));
-    let end = before.len() + spelled_by(lines[place - 1]).map_or(0, |entry| entry.len());
+    let [start, end] = [place - 1, place].map(|count| length_of(&up_to(count)));
     let of_bytes = desk.read(&bytes).err();
     let of_bytes = of_bytes.unwrap_or_else(|| panic!("{refused:?}, but accepted: {bytes:02x?}"));
     assert_eq!(of_bytes.number, number, "{refused:?} of the text of {bytes:02x?}");
-    assert!((before.len()..end).contains(&of_bytes.place), "{of_bytes:?} and {refused:?}");
+    assert!((start..end).contains(&of_bytes.place), "{of_bytes:?} and {refused:?}");
 
     assert_eq!(desk.table_of(&up_to(place)), Err(refused), "{}", shown(text));
     let more = [text, b"deny 256\n"].concat();
     let at_end = Refusal { number: UNKNOWN_WORD, place: lines.len() + 1 };
     assert_eq!(desk.table_of(&more), Err(at_end), "{}", shown(&more));
+}
+
+/// How many bytes a well-spelled text spells.
+fn length_of(text: &[u8]) -> usize {
+    spelled_by(text).expect("a well-spelled text").len()
 }
 
 fn shown(text: &[u8]) -> String {

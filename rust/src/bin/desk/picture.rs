@@ -57,12 +57,25 @@ fn reached(entries: &[Entry], row: u32) -> Vec<&Entry> {
 /// A row's box.
 fn drawn(entry: &Entry, decision: Option<Decision>) -> String {
     let mut lines = vec![entry.label(), entry.line.clone()];
-    let mut colour = String::new();
+    let mut colours = String::new();
+    if let Some(supplier) = entry.supplier {
+        lines[0] += &format!(", {}", entry.whose());
+        colours += &border_of(supplier);
+    }
     if let Some(decision) = decision {
         lines.push(format!("decides {decision}"));
-        colour = format!(", fillcolor=\"{}\"", colour_of(decision));
+        let _ = write!(colours, ", fillcolor=\"{}\"", colour_of(decision));
     }
-    format!("    {} [label=\"{}\"{colour}];\n", entry.number, lines.join("\\n"))
+    format!("    {} [label=\"{}\"{colours}];\n", entry.number, lines.join("\\n"))
+}
+
+/// The border of a supplier's rows, in a colour of their own; that of supplier 0's is plain.
+/// The colour's hue goes round by the golden section, so that next numbers differ much.
+fn border_of(supplier: u32) -> String {
+    match supplier {
+        0 => String::new(),
+        _ => format!(", color=\"0.{:04},0.9,0.7\", penwidth=3", supplier * 6180 % 10_000),
+    }
 }
 
 /// The word stands in the box too, for those who tell no red from green.

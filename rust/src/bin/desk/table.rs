@@ -8,7 +8,7 @@ use std::os::unix::io::AsFd;
 use pierstride::{Counts, Kind, Numbered, Part, TextRefusal};
 
 use crate::explain;
-use crate::line;
+use crate::line::{self, Line};
 use crate::trouble::{Refused, Trouble};
 use crate::words::file_name;
 
@@ -41,6 +41,8 @@ pub struct Entry {
     pub kind: &'static Kind,
     /// Its number, among the rows or among the questions. Constraints are not told by theirs.
     pub number: u32,
+    /// Of a row, its supplier, if the table names any.
+    pub supplier: Option<u32>,
     /// The numbers that it names.
     pub numbers: Vec<u32>,
     /// Its line of the text.
@@ -97,7 +99,7 @@ fn read(form: Form, given: Vec<u8>) -> Result<Table, Refused> {
 }
 
 /// The bytes that a text spells.
-pub fn bytes_of(text: &[u8]) -> Result<Vec<u8>, TextRefusal> {
+fn bytes_of(text: &[u8]) -> Result<Vec<u8>, TextRefusal> {
     let mut bytes = vec![0; pierstride::TABLE_BYTES];
     let length = pierstride::from_text(text, &mut bytes)?;
     bytes.truncate(length);
@@ -113,31 +115,42 @@ pub fn text_of(bytes: &[u8]) -> String {
 }
 
 impl Table {
-    /// The constraints, the rows and the questions, in the table's order.
+    /// The constraints, the rows and the questions, in the table's order. Of the suppliers
+    /// between them the rows tell.
     pub fn entries(&self) -> Vec<Entry> {
         let (text, mut entries) = (text_of(&self.bytes), Vec::new());
+        let kind_of = |line: Line| line.kind().expect("the library writes the words of its kinds");
+        let mut lines = line::lines(text.as_bytes());
+        let mut supplier = lines.any(|line| kind_of(line).part == Part::Suppliers).then_some(0);
         for line in line::lines(text.as_bytes()) {
-            let kind = line.kind().expect("the library writes the words of its kinds");
+            let (kind, numbers) = (kind_of(line), line.numbers());
+            if kind.part == Part::Suppliers {
+                supplier = numbers.first().copied();
+                continue;
+            }
             let before = |entry: &&Entry| entry.kind.part == kind.part;
             let number = entries.iter().filter(before).count() as u32;
-            let (numbers, line) = (line.numbers(), String::from_utf8_lossy(line.whole).into());
-            entries.push(Entry { kind, number, numbers, line });
+            let supplier = supplier.filter(|_| kind.part == Part::Rows);
+            let line = String::from_utf8_lossy(line.whole).into();
+            entries.push(Entry { kind, number, supplier, numbers, line });
         }
         entries
     }
 
     /// How many rows there are, or questions.
     pub fn count(&self, of: Numbered) -> u32 {
-        count(&self.counts, of)
+        count(of, self.counts.rows, self.counts.questions)
     }
 }
 
-/// How many there are: predicates that may be named, rows, questions.
-pub fn count(counts: &Counts, of: Numbered) -> u32 {
+/// How many there are where there are so many rows and questions: predicates and suppliers
+/// that may be named, and these.
+pub fn count(of: Numbered, rows: u32, questions: u32) -> u32 {
     match of {
         Numbered::Predicate => pierstride::PREDICATES,
-        Numbered::Row => counts.rows,
-        Numbered::Question => counts.questions,
+        Numbered::Row => rows,
+        Numbered::Question => questions,
+        Numbered::Supplier => pierstride::SUPPLIERS as u32,
     }
 }
 
@@ -145,9 +158,16 @@ impl Entry {
     /// "row 4", "constraint"
     pub fn label(&self) -> String {
         match self.kind.part {
-            Part::Constraints => self.kind.part.entry().to_owned(),
+            Part::Constraints | Part::Suppliers => self.kind.part.entry().to_owned(),
             Part::Rows | Part::Questions => format!("{} {}", self.kind.part.entry(), self.number),
         }
+    }
+
+    /// "supplier 3", or nothing.
+    pub fn whose(&self) -> String {
+        self.supplier
+            .map(|supplier| format!("{} {supplier}", Numbered::Supplier))
+            .unwrap_or_default()
     }
 
     /// The things that it names of one sort: rows, say.

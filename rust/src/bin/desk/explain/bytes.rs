@@ -2,7 +2,7 @@
 
 use pierstride::{Kind, Refusal, KINDS};
 
-use super::{takes, Bad};
+use super::{one_of, takes, Bad, Before};
 use crate::trouble::{Place, Refused};
 
 pub fn of_bytes(table: &[u8], refusal: Refusal) -> Refused {
@@ -32,6 +32,17 @@ fn start_of_entry(table: &[u8], place: usize) -> usize {
     start
 }
 
+/// The kinds and the numbers of whole entries.
+fn entries(mut bytes: &[u8]) -> impl Iterator<Item = (&'static Kind, Vec<u32>)> + '_ {
+    std::iter::from_fn(move || {
+        let (&byte, rest) = bytes.split_first()?;
+        let kind = Kind::of_byte(byte)?;
+        let (body, rest) = rest.split_at(kind.names.len());
+        bytes = rest;
+        Some((kind, body.iter().map(|&byte| byte.into()).collect()))
+    })
+}
+
 fn of_entry(table: &[u8], start: usize, kind: &'static Kind, refusal: Refusal) -> String {
     let body = table[start + 1..].iter().take(kind.names.len());
     let numbers: Vec<u32> = body.map(|&byte| byte.into()).collect();
@@ -43,8 +54,14 @@ fn of_entry(table: &[u8], start: usize, kind: &'static Kind, refusal: Refusal) -
     if refusal.number == 2 {
         return format!("{shown} {}; {}", refusal.reason(), takes(kind));
     }
-    let before = pierstride::read(&table[..start]).expect("what is before the first bad entry");
-    Bad { shown, kind, numbers, before }.why(refusal.number)
+    let before = Before::of(entries(&table[..start]));
+    let end = start + 1 + kind.names.len();
+    let behind = match (end < table.len(), kind_at(table, end)) {
+        (_, Some(kind)) => one_of(kind),
+        (true, None) => "what is no kind",
+        (false, None) => "nothing",
+    };
+    Bad { shown, kind, numbers, before, behind }.why(refusal.number)
 }
 
 fn in_hex(bytes: &[u8]) -> String {

@@ -2,10 +2,9 @@
 
 use pierstride::{Kind, TextRefusal, KINDS};
 
-use super::{takes, Bad};
+use super::{one_of, takes, Bad, Before};
 use crate::line::{lines, Line};
 use crate::number::value;
-use crate::table::bytes_of;
 use crate::trouble::{Place, Refused};
 use crate::words::{counted, listed, meant, quoted, shortened};
 
@@ -19,7 +18,7 @@ pub fn of_text(text: &[u8], refusal: TextRefusal) -> Refused {
         (12, None) => Some(unknown_word(line)),
         (12, Some(_)) => too_large(line),
         (13, Some(kind)) => Some(misspelt(line, kind)),
-        (3..=7 | 14, Some(kind)) => Some(of_line(text, place, line, kind).why(number)),
+        (3..=7 | 14 | 15, Some(kind)) => Some(of_line(text, place, line, kind).why(number)),
         _ => None,
     });
     let message = message.unwrap_or_else(|| refusal.reason().to_owned());
@@ -96,8 +95,8 @@ fn misspelt_piece(piece: &[u8]) -> Option<String> {
 
 /// A line that may not stand there, of a text whose lines are all well spelled.
 fn of_line(text: &[u8], place: usize, line: Line, kind: &'static Kind) -> Bad {
-    let end: usize = lines(text).take(place - 1).map(|line| line.whole.len() + 1).sum();
-    let before = bytes_of(&text[..end]).expect("what is before the first bad line");
-    let before = pierstride::read(&before).expect("the bytes of a text that is read");
-    Bad { shown: quoted(line.whole), kind, numbers: line.numbers(), before }
+    let lines_before = lines(text).take(place - 1);
+    let before = Before::of(lines_before.filter_map(|line| Some((line.kind()?, line.numbers()))));
+    let behind = lines(text).nth(place).and_then(Line::kind).map_or("nothing", one_of);
+    Bad { shown: quoted(line.whole), kind, numbers: line.numbers(), before, behind }
 }

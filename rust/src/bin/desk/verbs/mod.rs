@@ -128,7 +128,8 @@ pub static VERBS: &[Verb] = &[
         options: &[],
         brief: "each constraint, and each row and question with its number",
         about: "The table for people: each constraint, then each row and each question with its\n\
-                number, and their text.",
+                number, and their text. If the table names suppliers, each row has its own\n\
+                before its text.",
         example: (
             "printf 'grant\\nnegation 0\\n' | desk show -",
             "row 0  grant\nrow 1  negation 0",
@@ -155,6 +156,19 @@ pub static VERBS: &[Verb] = &[
         run: rows::possible,
     },
     Verb {
+        name: "suppliers",
+        operand: Some(Operand { required: false, ..ROW }),
+        options: &[],
+        brief: "whose rows a row rests on, or every row",
+        about: "The suppliers of all rows that row ROW reaches, itself included; without ROW,\n\
+                of every row of the table.",
+        example: (
+            "printf 'supplier 7\\ngrant\\nsupplier 3\\nnegation 0\\n' | desk suppliers - 1",
+            "suppliers 3 and 7",
+        ),
+        run: rows::suppliers,
+    },
+    Verb {
         name: "ask",
         operand: Some(Operand { required: false, ..QUESTION }),
         options: &[BUDGET],
@@ -175,7 +189,8 @@ pub static VERBS: &[Verb] = &[
         options: &[OUTPUT],
         brief: "the table without a row, in the form of the old",
         about: "The table without row ROW, in the form of the old. Every remaining row\n\
-                decides as before under its new number, and constraints stay as they are.",
+                decides as before under its new number, and constraints and suppliers stay\n\
+                as they are.",
         example: ("printf 'deny\\ngrant\\nnegation 1\\n' | desk strike - 0", "grant\nnegation 0"),
         run: tables::strike,
     },
@@ -188,7 +203,8 @@ pub static VERBS: &[Verb] = &[
         ],
         brief: "the rows that a row reaches, as a Graphviz file",
         about: "The rows that row ROW reaches, as a Graphviz file, with an arrow from each\n\
-                row to the rows that it names.",
+                row to the rows that it names. If the table names suppliers, each row has\n\
+                its own in its box, and a border by it.",
         example: ("desk picture examples/table-a.txt 4 --yes 0,1 | dot -Tsvg >row-4.svg", ""),
         run: rows::picture,
     },

@@ -1,7 +1,7 @@
-//! The verbs about one row.
+//! The verbs about rows.
 
 use crate::asked::Asked;
-use crate::json::{array, object};
+use crate::json::{array, object, Json};
 use crate::picture::{self, Decided};
 use crate::request::{in_words, mask, predicates};
 use crate::table::Table;
@@ -32,6 +32,53 @@ pub fn possible(asked: &Asked) -> Result<Status, Trouble> {
     ];
     asked.output().answer(listed(set.members(), "or"), object(fields))?;
     Ok(Status::Answered)
+}
+
+pub fn suppliers(asked: &Asked) -> Result<Status, Trouble> {
+    let table = asked.table()?;
+    match &asked.operand {
+        Some(row) => {
+            let list = list(asked, &table, row.value)?;
+            asked
+                .output()
+                .answer(suppliers_in_words(&list), suppliers_in_json(row.value, &list))?;
+        }
+        None => every_list(asked, &table)?,
+    }
+    Ok(Status::Answered)
+}
+
+fn every_list(asked: &Asked, table: &Table) -> Result<(), Trouble> {
+    let rows = 0..table.counts.rows;
+    let lists: Result<Vec<_>, _> = rows.map(|row| list(asked, table, row)).collect();
+    let lists = lists?;
+    for (row, list) in lists.iter().enumerate() {
+        asked.output().words(format!("row {row}: {}", suppliers_in_words(list)))?;
+    }
+    if lists.is_empty() {
+        asked.output().words("the table has no rows")?;
+    }
+    let objects = (0..).zip(&lists).map(|(row, list)| suppliers_in_json(row, list));
+    asked.output().object(object([("rows", array(objects))]))
+}
+
+/// The suppliers of all rows that a row reaches.
+fn list(asked: &Asked, table: &Table, row: u32) -> Result<Vec<u8>, Trouble> {
+    let mut list = vec![0; pierstride::SUPPLIERS];
+    let length = pierstride::suppliers(&table.bytes, row, &mut list);
+    list.truncate(asked.answered(table, length)?);
+    Ok(list)
+}
+
+/// "supplier 3", "suppliers 0, 3 and 9"
+fn suppliers_in_words(list: &[u8]) -> String {
+    let plural = if list.len() == 1 { "" } else { "s" };
+    format!("supplier{plural} {}", listed(list, "and"))
+}
+
+fn suppliers_in_json(row: u32, list: &[u8]) -> Json {
+    let suppliers = list.iter().map(|&supplier| u32::from(supplier));
+    object([("row", row.into()), ("suppliers", array(suppliers))])
 }
 
 pub fn picture(asked: &Asked) -> Result<Status, Trouble> {

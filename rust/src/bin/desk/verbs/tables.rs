@@ -57,9 +57,8 @@ fn write(asked: &Asked, form: Form, bytes: &[u8]) -> Result<Status, Trouble> {
 
 pub fn show(asked: &Asked) -> Result<Status, Trouble> {
     let entries = asked.table()?.entries();
-    let width = entries.iter().map(|entry| entry.label().len()).max().unwrap_or_default();
-    for entry in &entries {
-        asked.output().words(format!("{:width$}  {}", entry.label(), entry.line))?;
+    for line in listing(&entries) {
+        asked.output().words(line)?;
     }
     let listed = |part: Part| {
         let entries = entries.iter().filter(|entry| entry.kind.part == part);
@@ -74,11 +73,26 @@ pub fn show(asked: &Asked) -> Result<Status, Trouble> {
     Ok(Status::Answered)
 }
 
-/// An entry with its number, if it goes by one.
+/// A line for each entry: its number, its supplier in a table that names any, and its text.
+fn listing(entries: &[Entry]) -> Vec<String> {
+    let width = |column: fn(&Entry) -> String| {
+        entries.iter().map(|entry| column(entry).len()).max().unwrap_or_default()
+    };
+    let (number, whose) = (width(Entry::label), width(Entry::whose));
+    let line = |entry: &Entry| match whose {
+        0 => format!("{:number$}  {}", entry.label(), entry.line),
+        _ => format!("{:number$}  {:whose$}  {}", entry.label(), entry.whose(), entry.line),
+    };
+    entries.iter().map(line).collect()
+}
+
+/// An entry with its number, if it goes by one, and its supplier, if it has one.
 fn in_json(entry: &Entry) -> Json {
+    let number = match entry.kind.part {
+        Part::Constraints | Part::Suppliers => None,
+        part @ (Part::Rows | Part::Questions) => Some((part.entry(), entry.number.into())),
+    };
+    let supplier = entry.supplier.map(|supplier| ("supplier", supplier.into()));
     let text = ("text", entry.line.as_str().into());
-    match entry.kind.part {
-        Part::Constraints => object([text]),
-        part => object([(part.entry(), entry.number.into()), text]),
-    }
+    object([number, supplier, Some(text)].into_iter().flatten())
 }
