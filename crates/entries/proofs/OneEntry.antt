@@ -1,13 +1,12 @@
 -- Laws of one entry: its size, what it uses, and its bytes in an output.
 -- Assumes nothing.
-use mathlib.Core.Path.{_≡_, refl, ap, _∙_}
+use mathlib.Core.Path.{_≡_, refl, sym, ap, _∙_}
 use mathlib.Core.Bool.{cond}
 use mathlib.Core.List.{List, [], _∷_, _++_}
 use Prim.Native.Nat.{ℕ, zero, suc, _+_, _-_, _≤_, _<_, max}
 use native.Mathlib.Omega.{arith}
 use lib.ListN.{length, take, drop, set}
 use lib.Dec.{ltb}
-use borrow.Author.Tests.{le-leb, lt-leb}
 use Rattle.kinds.specs.declared.RowKind.the-variants.{Always, DenyIf, GrantIf, One, Two}
 use Rattle.kinds.specs.declared.QuestionKind.the-variants.{Compare, Not, Both}
 use Rattle.kinds.specs.declared.Names.{Names}
@@ -18,6 +17,7 @@ use Rattle.entries.specs.declared.Entry.{Entry}
 use Rattle.kinds.specs.Kinds.{formOf}
 use Rattle.entries.specs.Entries.{numbersOf, usedBy, highestOf, sizeOf, bytesOf, onto}
 use Rattle.entries.proofs.Numbers.{by-order}
+use Rattle.entries.proofs.Putting.{onto-short, onto-fits}
 
 -- a body has at most two numbers, and an entry one byte more than its body
 pub few : (k : Kind) → formOf k .numbers < 3
@@ -54,13 +54,11 @@ used-by-both names (suc (suc zero)) a b h = omega arith
 used-by-both names (suc (suc (suc n))) a b h = absurd (omega arith)
 
 -- an entry's bytes onto the front of an output that is too short, and of one that is long enough
-pub onto-short : (e : Entry) (out : List ℕ) → length out ≤ numbersOf e → out ≡ onto (bytesOf e) out
-unfolding onto
-onto-short e out h = let l : length out < length (bytesOf e) = omega (arith, size e) in simp (lt-leb _ _ l)
+pub too-short : (e : Entry) (out : List ℕ) → length out ≤ numbersOf e → out ≡ onto (bytesOf e) out
+too-short e out h = onto-short (bytesOf e) out (omega (arith, size e))
 
-pub onto-long : (e : Entry) (out : List ℕ) → numbersOf e < length out → bytesOf e ++ drop (length (bytesOf e)) out ≡ onto (bytesOf e) out
-unfolding onto
-onto-long e out h = let l : length (bytesOf e) ≤ length out = omega (arith, size e) in simp (le-leb _ _ l)
+onto-long : (e : Entry) (out : List ℕ) → numbersOf e < length out → bytesOf e ++ drop (length (bytesOf e)) out ≡ onto (bytesOf e) out
+onto-long e out h = sym (onto-fits (bytesOf e) out (omega (arith, size e)))
 
 -- the stores that write an entry of no, one and two numbers
 pub put-none : (e : Entry) (out : List ℕ) → numbersOf e < length out → numbersOf e ≡ 0 → set out 0 (formOf (e .kind) .byte) ≡ onto (bytesOf e) out

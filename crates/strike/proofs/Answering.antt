@@ -1,6 +1,6 @@
 -- The promise of striking, from what its code has found out once it has opened a reading.
 -- Assumes nothing.
-use mathlib.Core.Path.{_≡_, sym, ap, _∙_}
+use mathlib.Core.Path.{_≡_, refl, sym, ap, _∙_}
 use mathlib.Core.Bool.{Bool, true, false}
 use mathlib.Core.List.{List, _++_}
 use Prim.Native.Nat.{ℕ, _+_, _≤_, _<_}
@@ -14,16 +14,17 @@ use Rattle.table.specs.declared.Reading.{Reading}
 use Rattle.entries.specs.Refusals.{notThere, stillNamed, outputTooShort}
 use Rattle.entries.specs.Said.{Said, answered, refusing, refusal}
 use Rattle.entries.specs.Entries.{blank, sizeOf}
-use Rattle.table.specs.Contents.{Contents, others, written, encoded}
-use Rattle.table.specs.Reading.{reading, tableOf, contentsIn, Fits}
-use Rattle.table.proofs.Writing.{written-append, of-accepted}
+use Rattle.table.specs.Suppliers.{noSupplier, marked}
+use Rattle.table.specs.Contents.{Contents, lastSupplier, written, encoded}
+use Rattle.table.specs.Reading.{reading, tableOf, suppliersIn, contentsIn, Fits}
+use Rattle.table.proofs.Writing.{written-parts, of-accepted}
 use Rattle.table.proofs.Opening.{Opened}
-use Rattle.strike.specs.Strike.{closedUp, struckBytes, missing, inUse, tooShort, strikeRefusal, struckAnswer, outputBy, struckOutput}
-use Rattle.strike.proofs.Closing.{closed-bytes}
-use Rattle.strike.proofs.Laws.{output-of}
+use Rattle.strike.specs.Strike.{without, struck, struckBytes, markBytes, missing, inUse, tooShort, strikeRefusal, struckAnswer, outputBy, struckOutput}
+use Rattle.strike.proofs.Closing.{closed-bytes, lowered-bytes}
+use Rattle.strike.proofs.Laws.{struck-each, output-of}
 use Rattle.entries.specs.Output.{shownOutput}
-use Rattle.table.proofs.Held.{table-fits, contents-back, others-length, other-row}
-use Rattle.strike.proofs.Filling.{struck-left}
+use Rattle.table.proofs.Held.{first-at, table-fits, contents-back, rows-count, one-each}
+use Rattle.strike.proofs.Marks.{marked-length}
 
 -- an answer and an output, as the promise has them
 abbrev pub Answers : List ℕ → ℕ → List ℕ → Said ℕ → List ℕ → Type 0
@@ -44,13 +45,28 @@ turned-answers s r out why q = (
   sym (ap (λ (x : Said Contents). struckOutput x r out) q),
 )
 
+-- how long a table is, part by part
+parts-length : (c : Contents) → c .supplier ≡ lastSupplier c → length (c .suppliers) ≡ length (c .rows) →
+    length (encoded c) ≡ length (written (c .constraints)) + (length (written (c .rows)) + markBytes noSupplier (c .suppliers) + length (written (c .questions)))
+parts-length c settles many =
+    let constraints = written (c .constraints) in
+    let rows = written (marked noSupplier (c .suppliers) (c .rows)) in
+    let questions = written (c .questions) in
+    omega (
+      arith,
+      ap length (written-parts c settles),
+      length-append constraints (rows ++ questions),
+      length-append rows questions,
+      marked-length noSupplier (c .suppliers) (c .rows) many,
+    )
+
 -- a table that was read
 module _ {s : List ℕ} {got : Reading} (o : Opened s got) where
   pub open-fits : Fits (got .table)
   open-fits = rw (o .table) (table-fits (o .contents) (o .whole))
 
   open-contents : contentsIn (got .table) ≡ o .contents
-  open-contents = ap contentsIn (o .table) ∙ contents-back (o .contents)
+  open-contents = ap contentsIn (o .table) ∙ contents-back (o .contents) (o .whole)
 
   open-used : got .table .tally .rows ≡ length (o .contents .rows)
   unfolding tableOf
@@ -73,25 +89,25 @@ module _ {s : List ℕ} {got : Reading} (o : Opened s got) where
     bytes : struckBytes r (contentsIn (got .table)) ≡ struckBytes r (o .contents)
     bytes = ap (struckBytes r) open-contents
 
-    -- the bytes to write are the table's but for the row's own
-    pub bytes-left : sizeOf (getD (got .table .rows) r blank) + length (struckBytes r (contentsIn (got .table))) ≡ length s
-    bytes-left =
+    -- the bytes to write are the table's but for the row's own and the 60s that go with it
+    pub bytes-left : (marks : ℕ) → marks + markBytes noSupplier (without r (suppliersIn (got .table))) ≡ markBytes noSupplier (suppliersIn (got .table)) →
+        sizeOf (getD (got .table .rows) r blank) + (marks + length (struckBytes r (contentsIn (got .table)))) ≡ length s
+    bytes-left marks gone =
         let t = got .table in
-        let constraints = written (contentsIn t .constraints) in
-        let rest = others (contentsIn t) in
-        let all : length (constraints ++ written rest) ≡ length s =
-        ap length (sym (written-append (contentsIn t .constraints) rest))
-        ∙ ap (λ (c : Contents). length (encoded c)) open-contents ∙ ap length (of-accepted s (o .contents) (o .is) .1) in
-        let own : sizeOf (getD rest r blank) ≡ sizeOf (getD (t .rows) r blank) = ap sizeOf (other-row t r h) in
-        let written-left = ap length (struck-left t r h ∙ written-append (contentsIn t .constraints) (closedUp r rest)) in
+        let c = contentsIn t in
+        let d = struck r c in
+        let u : r < length (c .rows) = rw (rows-count t) h in
+        let all : length (encoded c) ≡ length s = ap (λ (c : Contents). length (encoded c)) open-contents ∙ ap length (of-accepted s (o .contents) (o .is) .1) in
+        let own : sizeOf (getD (c .rows) r blank) ≡ sizeOf (getD (t .rows) r blank) = ap sizeOf (first-at blank (t .rows) (t .tally .rows) r h) in
         omega (
           arith,
+          gone,
           all,
           own,
-          length-append constraints (written rest),
-          written-left,
-          length-append constraints (written (closedUp r rest)),
-          closed-bytes r rest (omega (arith, others-length t)),
+          parts-length c refl (one-each t),
+          parts-length d refl (struck-each r c (one-each t) u),
+          closed-bytes r (c .rows) u,
+          lowered-bytes r (c .questions),
         )
 
     module _ (out : List ℕ) where

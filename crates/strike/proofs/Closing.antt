@@ -56,7 +56,7 @@ pub length-closed : (r : ℕ) (es : List Entry) → r < length es → suc (lengt
 length-closed r es h = ap suc (length-map (without r es) (lowered r)) ∙ length-without r es h
 
 -- they take the bytes of the others
-lowered-bytes : (r : ℕ) (es : List Entry) → length (written (map (lowered r) es)) ≡ length (written es)
+pub lowered-bytes : (r : ℕ) (es : List Entry) → length (written (map (lowered r) es)) ≡ length (written es)
 unfolding written
 lowered-bytes r [] = refl
 lowered-bytes r (e ∷ es) =

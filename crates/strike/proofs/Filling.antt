@@ -1,32 +1,32 @@
 -- What the code of striking holds: the entries closed up over a row, and an output filled with them one by one.
 -- Assumes nothing.
 use mathlib.Core.Path.{_≡_, refl, sym, ap, ap₂, _∙_}
-use mathlib.Core.List.{List, [], _++_, append-assoc, append-nil}
+use mathlib.Core.List.{List, [], _∷_, _++_, append-assoc, append-nil}
 use mathlib.Core.Logic.{_⊎_, ⊎-elim}
 use Prim.Native.Nat.{ℕ, _+_, _-_, _≤_, _<_}
 use native.Mathlib.Omega.{arith}
 use native.Mathlib.Numerals.{add-one}
 use lib.ListN.{length, getD, take, drop, length-append, length-drop, take-append-drop}
-use lib.Seq.{take-length, drop-length, take-at, drop-at, take-suc, drop-drop, drop-append-add, getD-append-add}
+use lib.Seq.{take-length, take-at, drop-at, drop-drop, drop-append-add, length-take-le}
 use borrow.Rule.Slice.PartMut.{putMid, midOf}
 use Rattle.entries.specs.declared.Entry.{Entry}
 use Rattle.table.specs.declared.Table.{Table}
-use Rattle.entries.specs.Entries.{blank, numbersOf, sizeOf, bytesOf, onto}
-use Rattle.table.specs.Contents.{others, written}
-use Rattle.table.specs.Reading.{contentsIn}
-use Rattle.entries.proofs.OneEntry.{size, onto-long}
-use Rattle.table.proofs.Writing.{written-append, written-more}
-use Rattle.table.proofs.Held.{first-length, others-length, other-row, other-question}
-use Rattle.strike.specs.Strike.{old, lowered, closedUp, struckBytes}
+use Rattle.entries.specs.Entries.{blank, bytesOf, onto}
+use Rattle.table.specs.Suppliers.{noSupplier, change, marked, lastOf}
+use Rattle.table.specs.Contents.{Contents, others, ruled, entries, written}
+use Rattle.table.specs.Reading.{suppliersIn, contentsIn}
+use Rattle.entries.proofs.Putting.{put-behind}
+use Rattle.table.proofs.Marking.{marked-append, marked-more, last-more}
+use Rattle.table.proofs.Writing.{written-append}
+use Rattle.table.proofs.Held.{first-at, owners, owners-length, owner-of-row, owner-past-rows, others-marked}
+use Rattle.table.proofs.Held.{rows-count, questions-count, one-each, other-row, other-question}
+use Rattle.strike.specs.Strike.{old, lowered, struck}
 use Rattle.strike.proofs.Renumbering.{old-below, old-above}
-use Rattle.strike.proofs.Closing.{closed-at, length-closed}
-use Rattle.strike.proofs.Laws.{struck-others}
+use Rattle.strike.proofs.Closing.{closed-at}
+use Rattle.strike.proofs.Laws.{struck-rows, struck-questions, struck-supplier-at, struck-each, struck-others}
 
--- the entries to write: the constraints as they are, and behind them the others, closed up over row r
-module _ (t : Table) (r : ℕ) where
-  abbrev bound : ℕ
-  bound = t .tally .constraints
-
+-- the table to write: behind the constraints the others, closed up over row r, each with its supplier
+module _ (t : Table) (r : ℕ) (u : r < t .tally .rows) where
   abbrev used : ℕ
   used = t .tally .rows
 
@@ -36,104 +36,150 @@ module _ (t : Table) (r : ℕ) where
   abbrev constraints : List Entry
   constraints = contentsIn t .constraints
 
-  abbrev closed : List Entry
-  closed = closedUp r (others (contentsIn t))
+  abbrev pub left : Contents
+  left = struck r (contentsIn t)
 
-  abbrev pub left : List Entry
-  left = constraints ++ closed
+  there : r < length (contentsIn t .rows)
+  there = rw (rows-count t) u
 
-  pub struck-left : r < used → struckBytes r (contentsIn t) ≡ written left
-  struck-left u = ap (λ (es : List Entry). written (constraints ++ es)) (struck-others r (contentsIn t) (rw (first-length blank (t .rows) used) u))
+  left-each : length (left .suppliers) ≡ length (left .rows)
+  left-each = struck-each r (contentsIn t) (one-each t) there
 
-  pub left-count : r < used → length left ≡ bound + used + asked - 1
-  left-count u =
-      let fewer = length-closed r (others (contentsIn t)) (omega (arith, others-length t)) in
-      omega (arith, length-append constraints closed, first-length blank (t .constraints) bound, fewer, others-length t)
+  left-count : length (others left) ≡ used + asked - 1
+  left-count =
+      omega (arith, length-append (left .rows) (left .questions), struck-rows r (contentsIn t) there, rows-count t, struck-questions r (contentsIn t),
+      questions-count t)
 
-  -- the constraints are the first of them
-  constraints-first : take bound left ≡ constraints
-  constraints-first = take-at constraints closed bound (first-length blank (t .constraints) bound)
+  left-entries : entries left ≡ constraints ++ marked noSupplier (owners left) (others left)
+  left-entries = ap (λ (es : List Entry). constraints ++ es) (others-marked left left-each refl)
 
-  -- entry j behind the constraints, as the code takes it, from its number i among the others of the table
-  pub left-next : {A B C D : Type 0} (j i : ℕ) (g : Entry) → j < used + asked - 1 →
-      (A → (j < r) × (i ≡ j)) → (B → (r ≤ j) × (i ≡ j + 1)) → A ⊎ B →
-      (C → (i < used) × (g ≡ lowered r (getD (t .rows) i blank))) →
-      (D → (used ≤ i) × (g ≡ lowered r (getD (t .questions) (i - used) blank))) → C ⊎ D →
-      g ≡ getD left (bound + j) blank
-  left-next j i g l below above number row question entry =
-      let o : i ≡ old r j =
-      ⊎-elim (λ w. below w .1 ∙ sym (old-below r j (below w .0))) (λ w. above w .1 ∙ add-one j ∙ sym (old-above r j (above w .0))) number in
-      let here : i < used + asked = ⊎-elim (λ w. let b = below w in omega arith) (λ w. let b = above w in omega arith) number in
-      let m : g ≡ lowered r (getD (others (contentsIn t)) i blank) =
-      ⊎-elim (λ w. row w .1 ∙ ap (lowered r) (sym (other-row t i (row w .0))))
-      (λ w. question w .1 ∙ ap (lowered r) (sym (other-question t i (question w .0) here))) entry in
-      let at : bound + j ≡ length constraints + j = omega (arith, first-length blank (t .constraints) bound) in
-      m ∙ ap (λ (i : ℕ). lowered r (getD (others (contentsIn t)) i blank)) o ∙ sym (closed-at r (others (contentsIn t)) j)
-      ∙ sym (ap (λ (k : ℕ). getD left k blank) at ∙ getD-append-add constraints closed j blank)
+  -- what is written before entry j behind the constraints, and with it; and the supplier in force there
+  abbrev pub leftTo : ℕ → List Entry
+  leftTo j = constraints ++ marked noSupplier (take j (owners left)) (take j (others left))
 
--- the first j entries stand in the output, up to a place, and behind them what was there; all of them fit
-pub record Filled (es : List Entry) (before : List ℕ) (j at : ℕ) (out : List ℕ) : Type 0 where
-  pub fits : length (written es) ≤ length before
-  pub place : at ≡ length (written (take j es))
-  pub bytes : out ≡ written (take j es) ++ drop at before
+  abbrev pub inForce : ℕ → ℕ
+  inForce j = lastOf noSupplier (take j (owners left))
 
-pub filled-none : (es : List Entry) (out : List ℕ) → length (written es) ≤ length out → Filled es out 0 0 out
+  both-count : length (owners left) ≡ length (others left)
+  both-count = owners-length left left-each refl
+
+  pub left-more : (j s force : ℕ) (e : Entry) → j < used + asked - 1 → force ≡ inForce j → s ≡ getD (owners left) j noSupplier →
+      e ≡ getD (others left) j blank → leftTo (j + 1) ≡ leftTo j ++ (change force s ++ (e ∷ []))
+  left-more j s force e l f p q =
+      let first = marked noSupplier (take j (owners left)) (take j (others left)) in
+      rw (f, p, q, marked-more noSupplier (owners left) (others left) j both-count (omega (arith, left-count)))
+      (sym (append-assoc constraints first (change (inForce j) (getD (owners left) j noSupplier) ++ (getD (others left) j blank ∷ []))))
+
+  pub force-more : (j s : ℕ) → j < used + asked - 1 → s ≡ getD (owners left) j noSupplier → s ≡ inForce (j + 1)
+  force-more j s l p = p ∙ sym (last-more noSupplier (owners left) j (omega (arith, left-count, both-count)))
+
+  abbrev pub leftFrom : ℕ → List Entry
+  leftFrom j = marked (inForce j) (drop j (owners left)) (drop j (others left))
+
+  pub left-parts : (j : ℕ) → j ≤ used + asked - 1 → entries left ≡ leftTo j ++ leftFrom j
+  left-parts j h =
+      let both : length (take j (owners left)) ≡ length (take j (others left)) =
+      length-take-le j (owners left) (omega (arith, both-count, left-count)) ∙ sym (length-take-le j (others left) (omega (arith, left-count))) in
+      left-entries
+      ∙ ap (λ (es : List Entry). constraints ++ es)
+      (ap₂ (marked noSupplier) (sym (take-append-drop j (owners left))) (sym (take-append-drop j (others left)))
+      ∙ marked-append noSupplier (take j (owners left)) (drop j (owners left)) (take j (others left)) (drop j (others left)) both)
+      ∙ sym (append-assoc constraints (marked noSupplier (take j (owners left)) (take j (others left))) (leftFrom j))
+
+  pub left-all : (j : ℕ) → j ≡ used + asked - 1 → leftTo j ≡ entries left
+  left-all j q =
+      let all : j ≡ length (others left) = q ∙ sym left-count in
+      rw (all, take-length (others left), ← both-count, take-length (owners left)) (sym left-entries)
+
+  -- entry j, as the code takes it, from its number i among the others of the table; and its supplier
+  module _ {A B : Type 0} (j i : ℕ) (l : j < used + asked - 1) (below : A → (j < r) × (i ≡ j)) (above : B → (r ≤ j) × (i ≡ j + 1)) (number : A ⊎ B)
+      where
+    is-old : i ≡ old r j
+    is-old = ⊎-elim (λ w. below w .1 ∙ sym (old-below r j (below w .0))) (λ w. above w .1 ∙ add-one j ∙ sym (old-above r j (above w .0))) number
+
+    inside : i < used + asked
+    inside = ⊎-elim (λ w. let b = below w in omega arith) (λ w. let b = above w in omega arith) number
+
+    pub left-next : {C D : Type 0} (g : Entry) → (C → (i < used) × (g ≡ lowered r (getD (t .rows) i blank))) →
+        (D → (used ≤ i) × (g ≡ lowered r (getD (t .questions) (i - used) blank))) → C ⊎ D → g ≡ getD (others left) j blank
+    left-next g row question entry =
+        let m : g ≡ lowered r (getD (others (contentsIn t)) i blank) =
+        ⊎-elim (λ w. row w .1 ∙ ap (lowered r) (sym (other-row t i (row w .0))))
+        (λ w. question w .1 ∙ ap (lowered r) (sym (other-question t i (question w .0) inside))) entry in
+        m ∙ ap (λ (i : ℕ). lowered r (getD (others (contentsIn t)) i blank)) is-old
+        ∙ sym (ap (λ (es : List Entry). getD es j blank) (struck-others r (contentsIn t) there) ∙ closed-at r (others (contentsIn t)) j)
+
+    pub left-owner : {C D : Type 0} (s : ℕ) → (C → (i < used) × (s ≡ getD (t .suppliers) i noSupplier)) → (D → (used ≤ i) × (s ≡ inForce j)) → C ⊎ D →
+        s ≡ getD (owners left) j noSupplier
+    left-owner s row question =
+        let rows = struck-rows r (contentsIn t) there in
+        let at : i < used → j < length (left .rows) = λ h. ⊎-elim (λ w. let b = below w in omega (arith, rows, rows-count t))
+        (λ w. let b = above w in omega (arith, rows, rows-count t)) number in
+        let past : used ≤ i → length (left .rows) ≤ j = λ h. ⊎-elim (λ w. let b = below w in absurd (omega arith))
+        (λ w. let b = above w in omega (arith, rows, rows-count t)) number in
+        let own : i < used → getD (owners left) j noSupplier ≡ getD (t .suppliers) i noSupplier =
+        λ h. owner-of-row left left-each refl j (at h) ∙ struck-supplier-at r (contentsIn t) j
+        ∙ ap (λ (i : ℕ). getD (suppliersIn t) i noSupplier) (sym is-old) ∙ first-at noSupplier (t .suppliers) used i h in
+        ⊎-elim (λ w. row w .1 ∙ sym (own (row w .0)))
+        (λ w. question w .1 ∙ sym (owner-past-rows left left-each refl j (past (question w .0)) (omega (arith, left-count))))
+
+-- the first of some entries stand in the output, up to a place, and behind them what was there; all of them fit
+pub record Filled (all : List Entry) (before : List ℕ) (done : List Entry) (at : ℕ) (out : List ℕ) : Type 0 where
+  pub fits : length (written all) ≤ length before
+  pub rest : List Entry
+  pub parts : all ≡ done ++ rest
+  pub place : at ≡ length (written done)
+  pub bytes : out ≡ written done ++ drop at before
+
+pub filled-none : (all : List Entry) (out : List ℕ) → length (written all) ≤ length out → Filled all out [] 0 out
 unfolding written
-filled-none es out h = record { fits = h; place = refl; bytes = refl }
+filled-none all out h = record { fits = h; rest = all; parts = refl; place = refl; bytes = refl }
 
-module _ {es : List Entry} {before : List ℕ} {j at : ℕ} {out : List ℕ} (f : Filled es before j at out) where
-  pub filled-all : j ≡ length es → (at ≡ length (written es)) × (out ≡ written es ++ drop at before)
-  filled-all q =
-      let e : take j es ≡ es = ap (λ (j : ℕ). take j es) q ∙ take-length es in
-      (rw e at (f .place), rw e at (f .bytes))
+module _ {all : List Entry} {before : List ℕ} {done : List Entry} {at : ℕ} {out : List ℕ} (f : Filled all before done at out) where
+  pub filled-all : done ≡ all → (at ≡ length (written all)) × (out ≡ written all ++ drop at before)
+  filled-all q = (rw q at (f .place), rw q at (f .bytes))
 
   pub filled-within : at ≤ length before
   filled-within =
-      let a : length (written es) ≡ length (written (take j es)) + length (written (drop j es)) =
-      ap (λ (es : List Entry). length (written es)) (sym (take-append-drop j es)) ∙ ap length (written-append (take j es) (drop j es))
-      ∙ length-append (written (take j es)) (written (drop j es)) in
-      omega (arith, a, f .place, f .fits)
+      omega (arith, ap (λ (es : List Entry). length (written es)) (f .parts), ap length (written-append done (f .rest)),
+      length-append (written done) (written (f .rest)), f .place, f .fits)
 
   pub filled-length : length out ≡ length before
-  filled-length =
-      ap length (f .bytes) ∙ length-append (written (take j es)) (drop at before)
-      ∙ omega (arith, f .place, length-drop at before, filled-within)
+  filled-length = ap length (f .bytes) ∙ length-append (written done) (drop at before) ∙ omega (arith, f .place, length-drop at before, filled-within)
 
--- one entry more, written into the part of the output from its current end
-module _ {es : List Entry} {before : List ℕ} {j at : ℕ} {out : List ℕ} (f : Filled es before j at out) (here : j < length es) (e : Entry)
-    (next : e ≡ getD es j blank) where
-  more : written (take (j + 1) es) ≡ written (take j es) ++ bytesOf e
-  more =
-      ap written (ap (λ (k : ℕ). take k es) (add-one j) ∙ take-suc es j blank here) ∙ written-more (take j es) (getD es j blank)
-      ∙ ap (λ (e : Entry). written (take j es) ++ bytesOf e) (sym next)
+-- some entries more, written into the part of the output from its current end
+module _ {all : List Entry} {before : List ℕ} {done : List Entry} {at : ℕ} {out : List ℕ} (f : Filled all before done at out) (next later : List Entry)
+    (more : List Entry) (is : more ≡ done ++ next) (parts : all ≡ more ++ later) where
+  bytes-more : written more ≡ written done ++ written next
+  bytes-more = ap written is ∙ written-append done next
 
-  place-more : at + sizeOf e ≡ length (written (take (j + 1) es))
-  place-more = ap (λ (x : ℕ). x + sizeOf e) (f .place) ∙ sym (ap length more ∙ length-append (written (take j es)) (bytesOf e))
+  place-more : at + length (written next) ≡ length (written more)
+  place-more = omega (arith, f .place, ap length bytes-more, length-append (written done) (written next))
 
-  pub filled-room : at + sizeOf e ≤ length before
+  pub filled-room : at + length (written next) ≤ length before
   filled-room =
-      filled-within {es = es} {before = before} {j = j + 1} {out = written (take (j + 1) es) ++ drop (at + sizeOf e) before}
-      (record { fits = f .fits; place = place-more; bytes = refl })
+      filled-within {all = all} {before = before} {done = more} {out = written more ++ drop (at + length (written next)) before}
+      (record { fits = f .fits; rest = later; parts = parts; place = place-more; bytes = refl })
 
-  pub filled-more : (k n : ℕ) (ys : List ℕ) → k ≡ length out - at → n ≡ sizeOf e → ys ≡ onto (bytesOf e) (midOf at k out) →
-      Filled es before (j + 1) (at + n) (putMid at k out ys)
+  pub filled-more : (k n : ℕ) (ys : List ℕ) → k ≡ length out - at → n ≡ length (written next) → ys ≡ onto (written next) (midOf at k out) →
+      Filled all before more (at + n) (putMid at k out ys)
   filled-more k n ys ke ne ye =
-      let d : drop at out ≡ drop at before = ap (drop at) (f .bytes) ∙ drop-at (written (take j es)) (drop at before) at (sym (f .place)) in
-      let t : take at out ≡ written (take j es) = ap (take at) (f .bytes) ∙ take-at (written (take j es)) (drop at before) at (sym (f .place)) in
-      let q : k ≡ length (drop at before) = omega (arith, ke, filled-length f, length-drop at before) in
-      let mid : midOf at k out ≡ drop at before = ap₂ take q d ∙ take-length (drop at before) in
-      let post : drop k (drop at out) ≡ [] = ap₂ drop q d ∙ drop-length (drop at before) in
-      let room : numbersOf e < length (drop at before) = omega (arith, length-drop at before, size e, filled-room) in
-      let y : ys ≡ bytesOf e ++ drop (at + sizeOf e) before =
-      ye ∙ ap (onto (bytesOf e)) mid ∙ sym (onto-long e (drop at before) room)
-      ∙ ap (λ (l : List ℕ). bytesOf e ++ l) (drop-drop (sizeOf e) at before) in
+      let d : drop at out ≡ drop at before = ap (drop at) (f .bytes) ∙ drop-at (written done) (drop at before) at (sym (f .place)) in
+      let t : take at out ≡ written done = ap (take at) (f .bytes) ∙ take-at (written done) (drop at before) at (sym (f .place)) in
       rw ne (record {
         fits = f .fits;
+        rest = later;
+        parts = parts;
         place = place-more;
-        bytes = ap₂ _++_ t (ap₂ _++_ y post ∙ append-nil (bytesOf e ++ drop (at + sizeOf e) before))
-            ∙ sym (append-assoc (written (take j es)) (bytesOf e) (drop (at + sizeOf e) before))
-            ∙ ap (λ (l : List ℕ). l ++ drop (at + sizeOf e) before) (sym more);
+        bytes = put-behind out (written next) at k ys (omega (arith, filled-room, filled-length f)) ke ye
+            ∙ rw (t, d, drop-drop (length (written next)) at before, bytes-more)
+            (sym (append-assoc (written done) (written next) (drop (at + length (written next)) before)));
       })
+
+-- one entry's bytes
+pub written-one : (e : Entry) → written (e ∷ []) ≡ bytesOf e
+unfolding written
+written-one e = append-nil (bytesOf e)
 
 -- what was written over the front: from its end on, the output is as it was at first
 first-written : (front first out : List ℕ) (n at : ℕ) → n ≡ length front → out ≡ front ++ drop n first → n ≤ at →
@@ -144,22 +190,24 @@ first-written front first out n at p q l =
     ap₂ drop more q ∙ drop-append-add front (drop n first) (at - n) ∙ drop-drop (at - n) n first ∙ ap (λ (k : ℕ). drop k first) back
 
 -- the constraints, written over the front of an output; and all that is left, once it is written behind them
-module _ (t : Table) (r : ℕ) (first out : List ℕ) (n : ℕ) (p : n ≡ length (written (contentsIn t .constraints)))
+module _ (t : Table) (r : ℕ) (u : r < t .tally .rows) (first out : List ℕ) (n : ℕ) (p : n ≡ length (written (contentsIn t .constraints)))
     (q : out ≡ written (contentsIn t .constraints) ++ drop n first) where
-  pub filled-kept : length (written (left t r)) ≤ length out → Filled (left t r) out (t .tally .constraints + 0) n out
+  pub filled-kept : length (written (entries (left t r u))) ≤ length out → Filled (entries (left t r u)) out (leftTo t r u 0) n out
+  unfolding marked
   filled-kept fits =
-      let z : t .tally .constraints + 0 ≡ t .tally .constraints = omega arith in
-      rw (z) (record {
+      let constraints = contentsIn t .constraints in
+      rw (append-nil constraints) (record {
         fits = fits;
-        place = rw (constraints-first t r) p;
-        bytes = rw (constraints-first t r) (q ∙ ap (λ (l : List ℕ). written (contentsIn t .constraints) ++ l)
-            (sym (first-written (written (contentsIn t .constraints)) first out n n p q (omega arith))));
+        rest = leftFrom t r u 0;
+        parts = rw (append-nil constraints) at (left-parts t r u 0 (omega arith));
+        place = p;
+        bytes = q ∙ ap (λ (l : List ℕ). written constraints ++ l) (sym (first-written (written constraints) first out n n p q (omega arith)));
       })
 
-  pub left-written : (at : ℕ) (last : List ℕ) → (at ≡ length (written (left t r))) × (last ≡ written (left t r) ++ drop at out) →
-      (at ≡ length (written (left t r))) × (last ≡ written (left t r) ++ drop at first)
+  pub left-written : (at : ℕ) (last : List ℕ) → (at ≡ length (written (entries (left t r u)))) × (last ≡ written (entries (left t r u)) ++ drop at out) →
+      (at ≡ length (written (entries (left t r u)))) × (last ≡ written (entries (left t r u)) ++ drop at first)
   left-written at last w =
       let constraints = contentsIn t .constraints in
-      let long = ap length (written-append constraints (closedUp r (others (contentsIn t)))) in
-      let far : n ≤ at = omega (arith, p, w .0, long, length-append (written constraints) (written (closedUp r (others (contentsIn t))))) in
-      (w .0, w .1 ∙ ap (λ (l : List ℕ). written (left t r) ++ l) (first-written (written constraints) first out n at p q far))
+      let rest = ruled (left t r u) ++ left t r u .questions in
+      let far : n ≤ at = omega (arith, p, w .0, ap length (written-append constraints rest), length-append (written constraints) (written rest)) in
+      (w .0, w .1 ∙ ap (λ (l : List ℕ). written (entries (left t r u)) ++ l) (first-written (written constraints) first out n at p q far))

@@ -1,7 +1,7 @@
 -- What striking a row leaves: a table that reading accepts, with one row fewer (01, "Taking one entry, and striking a row"),
 -- and an output that goes by the answer.
 -- Assumes nothing.
-use mathlib.Core.Path.{_≡_, sym, ap, _∙_}
+use mathlib.Core.Path.{_≡_, refl, sym, ap, _∙_}
 use mathlib.Core.Bool.{false}
 use mathlib.Core.List.{List, map, map-append}
 use Prim.Native.Nat.{ℕ, suc, _+_, _≤_, _<_}
@@ -12,11 +12,12 @@ use Rattle.entries.specs.Said.{Said, answered}
 use Rattle.kinds.specs.Kinds.{isRow, isQuestion}
 use Rattle.entries.specs.Entries.{blank}
 use Rattle.table.specs.Steps.{tally}
+use Rattle.table.specs.Suppliers.{noSupplier}
 use Rattle.table.specs.Contents.{Contents, predicates, others}
 use Rattle.table.specs.Reading.{reading}
-use Rattle.table.proofs.Writing.{Each, each-get, each-of, Whole, of-accepted, whole-accepted, RowAt, QuestionAt}
+use Rattle.table.proofs.Writing.{Each, each-get, each-of, Whole, of-accepted, whole-accepted, RowAt, SupplierAt, QuestionAt}
 use Rattle.strike.specs.Strike.{old, lowered, without, closedUp, struck, struckBytes, names, inUse, struckAnswer, outputBy, struckOutput}
-use Rattle.strike.proofs.Renumbering.{lower-lt, old-above, old-lt, without-append}
+use Rattle.strike.proofs.Renumbering.{lower-lt, old-above, old-lt, without-at, length-without, without-append}
 use Rattle.strike.proofs.Closing.{lowered-sound, closed-at, lowered-at, length-closed, closed-highest}
 use Rattle.strike.proofs.Closing.{unnamed-above}
 use Rattle.entries.proofs.Lists.{none-at, nowhere, none-append}
@@ -38,6 +39,14 @@ struck-questions r c = length-map (c .questions) (lowered r)
 
 pub struck-predicates : (r : ℕ) (c : Contents) → predicates (struck r c) ≤ predicates c
 struck-predicates r c = omega (arith, closed-highest r (c .rows))
+
+-- row j has the supplier that it had, and there are as many as rows
+pub struck-supplier-at : (r : ℕ) (c : Contents) (j : ℕ) → getD (struck r c .suppliers) j noSupplier ≡ getD (c .suppliers) (old r j) noSupplier
+struck-supplier-at r c j = without-at r (c .suppliers) j noSupplier
+
+pub struck-each : (r : ℕ) (c : Contents) → length (c .suppliers) ≡ length (c .rows) → r < length (c .rows) →
+    length (struck r c .suppliers) ≡ length (struck r c .rows)
+struck-each r c many h = omega (arith, length-without r (c .suppliers) (rw many h), struck-rows r c h)
 
 -- behind the constraints, its entries are the table's, closed up
 pub struck-others : (r : ℕ) (c : Contents) → r < length (c .rows) → others (struck r c) ≡ closedUp r (others c)
@@ -85,6 +94,15 @@ module _ (r : ℕ) (c : Contents) (w : Whole c) (h : r < length (c .rows)) (n : 
       (λ x k q. lower-lt r x m q (rw top k))
       (each-get (QuestionAt bound (length (c .rows))) (c .questions) blank (w .questions-sound) j (rw (struck-questions r c) at l))))
 
+  suppliers-left : Each SupplierAt 0 (struck r c .suppliers)
+  suppliers-left =
+      each-of SupplierAt 0 (struck r c .suppliers) noSupplier
+      (λ j l.
+      let few = length-without r (c .suppliers) (omega (arith, w .suppliers-fit)) in
+      let o : old r j < length (c .suppliers) =
+      omega (arith, few, old-lt r j (length (struck r c .suppliers)) (omega (arith, few, w .suppliers-fit)) l) in
+      rw (without-at r (c .suppliers) j noSupplier) (each-get SupplierAt (c .suppliers) noSupplier (w .suppliers-sound) (old r j) o))
+
   pub struck-whole : Whole (struck r c)
   struck-whole = record {
     constraints-fit = w .constraints-fit;
@@ -92,6 +110,9 @@ module _ (r : ℕ) (c : Contents) (w : Whole c) (h : r < length (c .rows)) (n : 
     questions-fit = omega (arith, struck-questions r c, w .questions-fit);
     constraints-sound = w .constraints-sound;
     rows-sound = rows-left;
+    suppliers-fit = struck-each r c (w .suppliers-fit) h;
+    suppliers-sound = suppliers-left;
+    settles = refl;
     questions-sound = questions-left;
   }
 

@@ -3,6 +3,7 @@ pub mod Renumbering
 pub mod Closing
 pub mod Laws
 pub mod Telling
+pub mod Marks
 pub mod Filling
 pub mod Answering
 pub mod Keeping

@@ -1,5 +1,5 @@
--- Striking a row (01, "Taking one entry, and striking a row" and "When we say no").
-use Prim.Native.Nat.{ℕ, zero, suc, _-_}
+-- Striking a row (01, "Taking one entry, and striking a row" and "When we say no"; 02, L5 and L6).
+use Prim.Native.Nat.{ℕ, zero, suc, _+_, _-_}
 use mathlib.Core.Bool.{Bool, cond, _&&_, _||_}
 use mathlib.Core.List.{List, [], _∷_, _++_, map}
 use lib.ListN.{length, drop}
@@ -8,7 +8,8 @@ use Rattle.entries.specs.declared.Entry.{Entry}
 use Rattle.entries.specs.Refusals.{stillNamed, outputTooShort, ifMissing}
 use Rattle.entries.specs.Said.{Said, answered, refusing, andThen, unless}
 use Rattle.entries.specs.Lists.{some}
-use Rattle.table.specs.Contents.{Contents, others, encoded}
+use Rattle.table.specs.Suppliers.{noSupplier, change}
+use Rattle.table.specs.Contents.{Contents, settled, others, written, encoded}
 use Rattle.entries.specs.Renaming.{namesRow, renamed}
 
 -- "each row number above r lowered by one"
@@ -33,13 +34,24 @@ without (suc r) (x ∷ l) = x ∷ without r l
 abbrev pub closedUp : ℕ → List Entry → List Entry
 closedUp r es = map (lowered r) (without r es)
 
--- "the table without that row"; "striking keeps them", the constraints (02, L5)
+-- "the table without that row"; "striking keeps them", the constraints (02, L5), "and every row's supplier" (02, L6)
 abbrev pub struck : ℕ → Contents → Contents
-struck r c = record { constraints = c .constraints; rows = closedUp r (c .rows); questions = map (lowered r) (c .questions) }
+struck r c = settled (record {
+  constraints = c .constraints;
+  rows = closedUp r (c .rows);
+  suppliers = without r (c .suppliers);
+  questions = map (lowered r) (c .questions);
+  supplier = noSupplier;
+})
 
 -- its bytes
 abbrev pub struckBytes : ℕ → Contents → List ℕ
 struckBytes r c = encoded (struck r c)
+
+-- how many bytes the 60s of rows with these suppliers have, behind a supplier in force
+abbrev pub markBytes : ℕ → List ℕ → ℕ
+markBytes force [] = 0
+markBytes force (s ∷ ss) = length (written (change force s)) + markBytes s ss
 
 -- whether an entry names row r
 abbrev pub names : ℕ → Entry → Bool

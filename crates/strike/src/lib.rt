@@ -5,15 +5,18 @@ use entries::refusals::Output;
 use entries::refusals::Refusal;
 use table::Outcome;
 use table::Table;
+use table::suppliers;
 ghost use mathlib.Core.Path.{_≡_};
 ghost use mathlib.Core.Bool.{cond};
 ghost use mathlib.Core.List.{_++_};
-ghost use Prim.Native.Nat.{_≤_, _<_};
+ghost use Prim.Native.Nat.{_+_, _≤_, _<_};
 ghost use lib.ListN.{length, drop};
 ghost use Rattle.entries.specs.Output.{shownOutput};
+ghost use Rattle.table.specs.Steps.{rowLimit};
+ghost use Rattle.table.specs.Suppliers.{noSupplier};
 ghost use Rattle.table.specs.Contents.{written};
-ghost use Rattle.table.specs.Reading.{reading, contentsIn, Fits};
-ghost use Rattle.strike.specs.Strike.{lower, lowered, names, struckBytes, inUse, strikeRefusal, struckAnswer, struckOutput};
+ghost use Rattle.table.specs.Reading.{reading, firstOf, contentsIn, Fits};
+ghost use Rattle.strike.specs.Strike.{lower, lowered, without, markBytes, names, struckBytes, inUse, strikeRefusal, struckAnswer, struckOutput};
 
 // A number above r, lowered by one.
 fn lower_of(r: usize, x: u8) -> u8
@@ -88,7 +91,8 @@ fn keep(t: Table, out: &mut [u8]) -> usize
     end
 }
 
-// The entries without row r, each into the unwritten rest of the output: the constraints as they are, and behind them the others.
+// The entries without row r, each into the unwritten rest of the output: the constraints as they are, and behind them the others, with a 60 where the supplier
+// changes.
 fn write(t: Table, r: usize, out: &mut [u8]) -> usize
     requires { ⌜ Fits t × (r < t .tally .rows) × (length (struckBytes r (contentsIn t)) ≤ length (now out)) ⌝ }
     ensures { λ n. ⌜ (n ≡ length (struckBytes r (contentsIn t))) × (now (out .exit) ≡ struckBytes r (contentsIn t) ++ drop n (now (out .entry))) ⌝ }
@@ -96,21 +100,40 @@ fn write(t: Table, r: usize, out: &mut [u8]) -> usize
     let used = t.tally.rows;
     let count = used + t.tally.questions - 1;
     let mut at = keep(t, out);
+    let mut force = suppliers::NONE;
     let mut j = 0;
     while j < count {
         let i = if j < r { j } else { j + 1 };
+        let mut s = force;
         let e = if i < used {
+            s = t.suppliers[i];
             let row = t.rows[i];
             lowered_of(r, row)
         } else {
             let question = t.questions[i - used];
             lowered_of(r, question)
         };
-        let n = entries::put(&mut out[at..], e);
+        let n = suppliers::put(&mut out[at..], force, s, e);
         at = at + n;
+        force = s;
         j += 1;
     }
     at
+}
+
+// How many bytes of 60s go with row r: its own and that of the row behind it, but for one that this needs then.
+fn marks_gone(owners: [u8; Table::ROWS], rows: usize, r: usize) -> usize
+    requires { ⌜ (r < rows) × (rows ≤ rowLimit) ⌝ }
+    ensures { λ n. ⌜ n + markBytes noSupplier (without r (firstOf noSupplier owners rows)) ≡ markBytes noSupplier (firstOf noSupplier owners rows) ⌝ }
+{
+    let own = owners[r];
+    let prior = if r == 0 { suppliers::NONE } else { owners[r - 1] };
+    let first = suppliers::change_size(prior, own);
+    if rows <= r + 1 {
+        return first;
+    }
+    let next = owners[r + 1];
+    first + suppliers::change_size(own, next) - suppliers::change_size(prior, next)
 }
 
 // 9 where the row is named, then 11 where the output is too short; 0 for neither.
@@ -140,7 +163,8 @@ pub fn strike(table: &[u8], row: u32, out: &mut [u8]) -> Output
         return Output::Refused(Refusal::of(refusals::NOT_THERE));
     }
     let e = t.rows[r];
-    let length = table.len() - entries::size_of(e);
+    let marks = marks_gone(t.suppliers, t.tally.rows, r);
+    let length = table.len() - entries::size_of(e) - marks;
     let why = strike_refusal(named(t, r), out.len() < length);
     if why != 0 {
         return Output::Refused(Refusal::of(why));

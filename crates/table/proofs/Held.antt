@@ -71,35 +71,6 @@ owners c = c .suppliers ++ replicate (length (c .questions)) (lastSupplier c)
 abbrev pub allOwners : Contents → List ℕ
 allOwners c = replicate (length (c .constraints)) noSupplier ++ owners c
 
--- so a table's entries are these with the 60s that they need
-module _ (c : Contents) (many : length (c .suppliers) ≡ length (c .rows)) (settles : c .supplier ≡ lastSupplier c) where
-  pub owners-length : length (owners c) ≡ length (others c)
-  owners-length =
-      length-append (c .suppliers) (replicate (length (c .questions)) (lastSupplier c))
-      ∙ ap₂ _+_ many (length-replicate (length (c .questions)) (lastSupplier c))
-      ∙ sym (length-append (c .rows) (c .questions))
-
-  pub others-marked : ruled c ++ c .questions ≡ marked noSupplier (owners c) (others c)
-  others-marked =
-      let last = lastSupplier c in
-      let none : change last (c .supplier) ≡ [] = unchanged last (c .supplier) settles in
-      rw (none, append-nil (marked noSupplier (c .suppliers) (c .rows)))
-      (sym (marked-append noSupplier (c .suppliers) (replicate (length (c .questions)) last) (c .rows) (c .questions) many
-      ∙ ap (λ (l : List Entry). marked noSupplier (c .suppliers) (c .rows) ++ l) (marked-same last (c .questions))))
-
-  pub all-length : length (allOwners c) ≡ length (numbered c)
-  all-length =
-      length-append (replicate (length (c .constraints)) noSupplier) (owners c)
-      ∙ ap₂ _+_ (length-replicate (length (c .constraints)) noSupplier) owners-length
-      ∙ sym (length-append (c .constraints) (others c))
-
-  pub all-marked : entries c ≡ marked noSupplier (allOwners c) (numbered c)
-  all-marked =
-      let front = replicate (length (c .constraints)) noSupplier in
-      ap₂ _++_ (sym (marked-same noSupplier (c .constraints)))
-      (others-marked ∙ ap (λ (force : ℕ). marked force (owners c) (others c)) (sym (last-same noSupplier (length (c .constraints)))))
-      ∙ sym (marked-append noSupplier front (owners c) (c .constraints) (others c) (length-replicate (length (c .constraints)) noSupplier))
-
 -- elements one behind the other
 behind : {A : Type 0} (z : A) (l m : List A) (n i : ℕ) → length l ≡ n → n ≤ i → getD (l ++ m) i z ≡ getD m (i - n) z
 behind z l m n i p h =
@@ -122,6 +93,47 @@ owner-behind front more n i p h q =
     let from : i ≡ length front + (i - n) = omega arith in
     let cut : take i (front ++ more) ≡ front ++ take (i - n) more = ap (λ (i : ℕ). take i (front ++ more)) from ∙ take-append-add front more (i - n) in
     behind noSupplier front more n i p h ∙ q ∙ rw cut (sym (last-append noSupplier front (take (i - n) more)))
+
+-- so a table's entries are these with the 60s that they need
+module _ (c : Contents) (many : length (c .suppliers) ≡ length (c .rows)) (settles : c .supplier ≡ lastSupplier c) where
+  pub owners-length : length (owners c) ≡ length (others c)
+  owners-length =
+      length-append (c .suppliers) (replicate (length (c .questions)) (lastSupplier c))
+      ∙ ap₂ _+_ many (length-replicate (length (c .questions)) (lastSupplier c))
+      ∙ sym (length-append (c .rows) (c .questions))
+
+  -- the supplier of each: a row's own, and else the one in force
+  pub owner-of-row : (i : ℕ) → i < length (c .rows) → getD (owners c) i noSupplier ≡ getD (c .suppliers) i noSupplier
+  owner-of-row i l = List·getD-append (c .suppliers) (replicate (length (c .questions)) (lastSupplier c)) noSupplier i (omega (arith, many))
+
+  pub owner-past-rows : (i : ℕ) → length (c .rows) ≤ i → i < length (others c) → getD (owners c) i noSupplier ≡ lastOf noSupplier (take i (owners c))
+  owner-past-rows i h l =
+      let last = lastSupplier c in
+      let n = length (c .questions) in
+      let inside : i - length (c .rows) < n = omega (arith, length-append (c .rows) (c .questions)) in
+      let stays = same-owner last n (i - length (c .rows)) [] inside in
+      owner-behind (c .suppliers) (replicate n last) (length (c .rows)) i many h (rw (append-nil (replicate n last)) at stays)
+
+  pub others-marked : ruled c ++ c .questions ≡ marked noSupplier (owners c) (others c)
+  others-marked =
+      let last = lastSupplier c in
+      let none : change last (c .supplier) ≡ [] = unchanged last (c .supplier) settles in
+      rw (none, append-nil (marked noSupplier (c .suppliers) (c .rows)))
+      (sym (marked-append noSupplier (c .suppliers) (replicate (length (c .questions)) last) (c .rows) (c .questions) many
+      ∙ ap (λ (l : List Entry). marked noSupplier (c .suppliers) (c .rows) ++ l) (marked-same last (c .questions))))
+
+  pub all-length : length (allOwners c) ≡ length (numbered c)
+  all-length =
+      length-append (replicate (length (c .constraints)) noSupplier) (owners c)
+      ∙ ap₂ _+_ (length-replicate (length (c .constraints)) noSupplier) owners-length
+      ∙ sym (length-append (c .constraints) (others c))
+
+  pub all-marked : entries c ≡ marked noSupplier (allOwners c) (numbered c)
+  all-marked =
+      let front = replicate (length (c .constraints)) noSupplier in
+      ap₂ _++_ (sym (marked-same noSupplier (c .constraints)))
+      (others-marked ∙ ap (λ (force : ℕ). marked force (owners c) (others c)) (sym (last-same noSupplier (length (c .constraints)))))
+      ∙ sym (marked-append noSupplier front (owners c) (c .constraints) (others c) (length-replicate (length (c .constraints)) noSupplier))
 
 -- a struct's entries: its constraints, its rows and its questions, so many of each as it counts
 module _ (t : Table) where
@@ -152,10 +164,10 @@ module _ (t : Table) where
   pub suppliers-count : length (suppliersIn t) ≡ used
   suppliers-count = first-length noSupplier (t .suppliers) used
 
-  questions-count : length questions ≡ asked
+  pub questions-count : length questions ≡ asked
   questions-count = first-length blank (t .questions) asked
 
-  one-each : length (suppliersIn t) ≡ length rows
+  pub one-each : length (suppliersIn t) ≡ length rows
   one-each = suppliers-count ∙ sym rows-count
 
   -- entry i behind the constraints: a row, or behind the rows a question
@@ -188,19 +200,13 @@ module _ (t : Table) where
       let q : i - bound - used ≡ i - (bound + used) = omega arith in
       past-constraints i (omega arith) ∙ other-question (i - bound) (omega arith) (omega arith) ∙ rw q
 
-  -- its supplier: a row's own, and else the one in force
-  pub owner-row : (i : ℕ) → i < used → getD (owners (contentsIn t)) i noSupplier ≡ getD (t .suppliers) i noSupplier
-  owner-row i l =
-      List·getD-append (suppliersIn t) (replicate (length questions) (lastSupplier (contentsIn t))) noSupplier i (rw suppliers-count l)
-      ∙ first-at noSupplier (t .suppliers) used i l
+  -- its supplier
+  owner-row : (i : ℕ) → i < used → getD (owners (contentsIn t)) i noSupplier ≡ getD (t .suppliers) i noSupplier
+  owner-row i l = owner-of-row (contentsIn t) one-each refl i (rw rows-count l) ∙ first-at noSupplier (t .suppliers) used i l
 
-  pub owner-question : (i : ℕ) → used ≤ i → i < used + asked →
+  owner-question : (i : ℕ) → used ≤ i → i < used + asked →
       getD (owners (contentsIn t)) i noSupplier ≡ lastOf noSupplier (take i (owners (contentsIn t)))
-  owner-question i h l =
-      let last = lastSupplier (contentsIn t) in
-      let none = append-nil (replicate (length questions) last) in
-      let stays = same-owner last (length questions) (i - used) [] (omega (arith, questions-count)) in
-      owner-behind (suppliersIn t) (replicate (length questions) last) used i suppliers-count h (rw none at stays)
+  owner-question i h l = owner-past-rows (contentsIn t) one-each refl i (rw rows-count h) (rw others-length l)
 
   -- as the code takes it, by each way: of the entries behind the constraints, and of all with their suppliers
   pub other-at : {A B : Type 0} (i : ℕ) (e : Entry) → i < used + asked →

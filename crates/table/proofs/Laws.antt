@@ -45,7 +45,7 @@ change-bytes force s = go (eqb s force)
     go true = refl
     go false = refl
 
-change-short : (force s : ℕ) → length (written (change force s)) ≤ supplierSize
+pub change-short : (force s : ℕ) → length (written (change force s)) ≤ supplierSize
 change-short force s = rw (change-bytes force s) (go (eqb s force))
   where
     go : (same : Bool) → cond same 0 supplierSize ≤ supplierSize

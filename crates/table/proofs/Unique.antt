@@ -1,6 +1,6 @@
--- Each public call's promise leaves one answer (belnap/specs/One.antt). Stated of the promises themselves, so that one that says less is refused here.
+-- Each public call's promise leaves one answer, and one content for the output (belnap/specs/One.antt). Stated of the promises themselves, so that one that says less is refused here.
 -- Assumes nothing.
-use Rattle.belnap.specs.One.{One}
+use Rattle.belnap.specs.One.{One, OneOutput}
 use Rattle.belnap.proofs.Unique.{by-definition}
 use Rattle.table.proofs.Table.empty.Reads as empty
 use Rattle.table.proofs.read.Reads as read
@@ -8,6 +8,7 @@ use Rattle.table.proofs.steps.enter.Reads as enter
 use Rattle.table.proofs.suppliers.supplying.Reads as supplying
 use Rattle.table.proofs.suppliers.behind.Reads as behind
 use Rattle.table.proofs.suppliers.change_size.Reads as change_size
+use Rattle.table.proofs.suppliers.put.Reads as put
 
 pub one-empty : One empty.Post
 one-empty κs args exit = by-definition
@@ -26,3 +27,6 @@ one-behind κs args exit = by-definition
 
 pub one-change : One change_size.Post
 one-change κs args exit a b p q = by-definition a b (p .0) (q .0)
+
+pub one-put : OneOutput put.Post (λ κs exit. exit .0)
+one-put κs args e f a b p q = (by-definition a b (p .0) (q .0), by-definition _ _ (p .1) (q .1))

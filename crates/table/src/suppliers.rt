@@ -2,9 +2,10 @@
 use entries::Entry;
 use kinds::Kind;
 ghost use mathlib.Core.Path.{_≡_};
+ghost use mathlib.Core.List.{_∷_, [], _++_};
 ghost use Prim.Native.Nat.{_≤_};
 ghost use lib.ListN.{length};
-ghost use Rattle.entries.specs.Entries.{supplierSize};
+ghost use Rattle.entries.specs.Entries.{supplierSize, onto};
 ghost use Rattle.table.specs.Suppliers.{supplying, change, forceBehind};
 ghost use Rattle.table.specs.Contents.{written};
 
@@ -47,4 +48,22 @@ pub fn change_size(force: u8, s: u8) -> usize
     }
     let mark = supplying(s);
     entries::size_of(mark)
+}
+
+// An entry's bytes, behind those of a 60 where its supplier is another than the one in force, written onto the front of a lent output where they fit; their
+// number comes back either way.
+pub fn put(out: &mut [u8], force: u8, s: u8, e: Entry) -> usize
+    ensures { λ r. ⌜ (r ≡ length (written (change force s ++ (e ∷ [])))) ×
+        (now (out .exit) ≡ onto (written (change force s ++ (e ∷ []))) (now (out .entry))) ⌝ }
+{
+    let size = change_size(force, s) + entries::size_of(e);
+    if out.len() < size {
+        return size;
+    }
+    if s == force {
+        return entries::put(out, e);
+    }
+    let mark = supplying(s);
+    let n = entries::put(out, mark);
+    n + entries::put(&mut out[n..], e)
 }

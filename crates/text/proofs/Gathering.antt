@@ -1,13 +1,13 @@
 -- The bytes of a table as the code gathers them from a text, line by line.
 -- Assumes nothing.
-use mathlib.Core.Path.{_≡_, refl, sym, ap, ap₂, _∙_}
+use mathlib.Core.Path.{_≡_, refl, sym, ap, _∙_}
 use mathlib.Core.Bool.{Bool, false}
 use mathlib.Core.List.{List, [], _∷_, _++_, append-assoc, append-nil}
 use Prim.Native.Nat.{ℕ, suc, _+_, _-_, _≤_, _<_}
 use native.Mathlib.Omega.{arith}
 use native.Mathlib.Numerals.{add-one}
 use lib.ListN.{length, take, drop, length-append, length-drop, drop-of-length-le}
-use lib.Seq.{take-length, drop-length, take-append-seam, take-append-add, length-take-le}
+use lib.Seq.{take-append-seam, take-append-add, length-take-le}
 use borrow.Author.Tests.{ne-eqb}
 use borrow.Rule.Slice.PartMut.{putMid, midOf}
 use Rattle.belnap.proofs.Finite.{never}
@@ -17,8 +17,9 @@ use Rattle.entries.specs.declared.Entry.{Entry}
 use Rattle.entries.specs.declared.refusals.Refusal.{Refusal}
 use Rattle.entries.specs.Refusals.{ofSpelling, isAmong}
 use Rattle.entries.specs.Said.{Said, answered, refusing, refusal, andThen, whyOf}
-use Rattle.entries.specs.Entries.{numbersOf, sizeOf, bytesOf, onto}
-use Rattle.entries.proofs.OneEntry.{size, onto-long}
+use Rattle.entries.specs.Entries.{sizeOf, bytesOf, onto}
+use Rattle.entries.proofs.OneEntry.{size}
+use Rattle.entries.proofs.Putting.{put-behind}
 use Rattle.table.specs.declared.steps.Tally.{Tally}
 use Rattle.kinds.specs.Kinds.{isRow}
 use Rattle.table.specs.Steps.{tally, oneMore, placed, permitted}
@@ -40,14 +41,7 @@ use Rattle.text.proofs.ByLine.{no-line, no-row, row-follows, here, Good
 module _ (bytes : List ℕ) (e : Entry) (at : ℕ) (room : at + sizeOf e ≤ length bytes) (k : ℕ) (ys : List ℕ) (ke : k ≡ length bytes - at)
     (ye : ys ≡ onto (bytesOf e) (midOf at k bytes)) where
   stored : putMid at k bytes ys ≡ take at bytes ++ (bytesOf e ++ drop (sizeOf e) (drop at bytes))
-  stored =
-      let rest = drop at bytes in
-      let q : k ≡ length rest = omega (arith, ke, length-drop at bytes) in
-      let mid : midOf at k bytes ≡ rest = ap (λ (k : ℕ). take k rest) q ∙ take-length rest in
-      let post : drop k rest ≡ [] = ap (λ (k : ℕ). drop k rest) q ∙ drop-length rest in
-      let long : numbersOf e < length rest = omega (arith, size e, length-drop at bytes) in
-      ap₂ (λ (ys post : List ℕ). take at bytes ++ (ys ++ post)) (ye ∙ ap (onto (bytesOf e)) mid ∙ sym (onto-long e rest long)) post
-      ∙ ap (λ (l : List ℕ). take at bytes ++ l) (append-nil (bytesOf e ++ drop (sizeOf e) rest))
+  stored = put-behind bytes (bytesOf e) at k ys room ke ye
 
   pub put-front : take (at + sizeOf e) (putMid at k bytes ys) ≡ take at bytes ++ bytesOf e
   put-front =

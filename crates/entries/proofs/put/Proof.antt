@@ -4,7 +4,7 @@ use mathlib.Core.Logic.{⊎-elim}
 use native.Mathlib.Omega.{arith}
 use lib.ListN.{length, length-set}
 use Rattle.kinds.specs.declared.Form.{Form}
-use Rattle.entries.proofs.OneEntry.{size, onto-short, put-all}
+use Rattle.entries.proofs.OneEntry.{size, too-short, put-all}
 use borrow.Author.Needs.{needs}
 use Rattle.entries.proofs.put.Statement.{statement}
 use Rattle.entries.proofs.put.Tie as tie
@@ -13,7 +13,7 @@ returns : tie.Need-returns
 returns c =
     let start = c .before .before .before .before .args in
     let n = c .before .body-size .ensures .0 in
-    (rw (size (start .e)) (omega (arith, n)), onto-short (start .e) (start .out .now) (rw n at (c .if1 .taken)))
+    (rw (size (start .e)) (omega (arith, n)), too-short (start .e) (start .out .now) (rw n at (c .if1 .taken)))
 
 slice-write-out-2 : tie.Need-slice-write-out-2
 slice-write-out-2 c =

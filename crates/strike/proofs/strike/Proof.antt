@@ -1,11 +1,12 @@
 -- That `strike` (src/lib.rt) keeps its promise.
 use mathlib.Core.Path.{_≡_, sym, ap, _∙_}
 use mathlib.Core.Bool.{false}
-use Prim.Native.Nat.{_+_, _-_, _≤_}
+use Prim.Native.Nat.{ℕ, _+_, _-_, _≤_}
 use native.Mathlib.Omega.{arith}
 use lib.ListN.{length, getD}
 use lib.Dec.{ltb}
 use borrow.Author.Tests.{ltb-false}
+use Rattle.table.specs.declared.Table.{Table}
 use Rattle.entries.specs.Entries.{blank, sizeOf}
 use Rattle.table.specs.Reading.{contentsIn}
 use Rattle.table.proofs.Opening.{Opened, opened, turned}
@@ -24,30 +25,36 @@ start-at c = c .before .before .before .before .before
 open-at : (c : tie.After-enum-told) → Opened (start-at c .args .table .now) (c .before .before .read .result)
 open-at c = opened (start-at c .args .table .now) (c .before .before .read .result) (c .before .before .read .ensures) (c .enum-told .given .1)
 
--- once the row's size is known: the bytes to write are the table's but for the row's own
+-- once the row's size is known, and the 60s that go with it: the bytes to write are the table's but for these
+abbrev there-at : tie.After-size-of → tie.Else1
+there-at c = c .before .before .before .before
+
 abbrev told-at : tie.After-size-of → tie.After-enum-told
-told-at c = c .before .before .before .before
+told-at c = there-at c .before .before
 
-left-at : (c : tie.After-size-of) →
-    sizeOf (getD (told-at c .before .before .read .result .table .rows) (start-at (told-at c) .args .row) blank)
-    + length (struckBytes (start-at (told-at c) .args .row) (contentsIn (told-at c .before .before .read .result .table))) ≡ length
-    (start-at (told-at c) .args .table .now)
-left-at c = bytes-left (open-at (told-at c)) (start-at (told-at c) .args .row) (c .before .before .if1 .left)
+abbrev table-at : tie.After-size-of → Table
+table-at c = told-at c .before .before .read .result .table
 
-length-at : (c : tie.After-size-of) →
-    length (start-at (told-at c) .args .table .now) - c .size-of .result
-    ≡ length (struckBytes (start-at (told-at c) .args .row) (contentsIn (told-at c .before .before .read .result .table)))
+abbrev row-at : tie.After-size-of → ℕ
+row-at c = start-at (told-at c) .args .row
+
+left-at : (c : tie.After-size-of) → sizeOf (getD (table-at c .rows) (row-at c) blank)
+    + (c .before .marks-gone .result + length (struckBytes (row-at c) (contentsIn (table-at c)))) ≡ length (start-at (told-at c) .args .table .now)
+left-at c = bytes-left (open-at (told-at c)) (row-at c) (there-at c .if1 .left) (c .before .marks-gone .result) (c .before .marks-gone .ensures)
+
+abbrev length-left : tie.After-size-of → ℕ
+length-left c = length (start-at (told-at c) .args .table .now) - c .size-of .result - c .before .marks-gone .result
+
+length-at : (c : tie.After-size-of) → length-left c ≡ length (struckBytes (row-at c) (contentsIn (table-at c)))
 length-at c = omega (arith, c .size-of .ensures .0, left-at c)
 
 -- where neither 9 nor 11 is due: the row is not named, and the output has room
 none-due : (c : tie.Else2) → let size = c .before .before .before in
-    (c .before .before .named .result ≡ false) × (length (start-at (told-at size) .args .table .now) - size .size-of .result ≤ length
-    (start-at (told-at size) .args .out .now))
+    (c .before .before .named .result ≡ false) × (length-left size ≤ length (start-at (told-at size) .args .out .now))
 none-due c =
     let size = c .before .before .before in
-    let start = start-at (told-at size) .args in
     let none = unstopped _ _ (sym (c .before .strike-refusal .ensures) ∙ c .if2 .left) in
-    (none .0, ltb-false (length (start .out .now)) (length (start .table .now) - size .size-of .result) (none .1))
+    (none .0, ltb-false (length (start-at (told-at size) .args .out .now)) (length-left size) (none .1))
 
 returns : tie.Need-returns
 unfolding shownOutput
@@ -68,30 +75,35 @@ returns-2 c =
 element-copy-out-e : tie.Need-element-copy-out-e
 element-copy-out-e c = omega (arith, c .if1 .left, open-fits (open-at (c .before .before)) .used-fit)
 
+marks-gone-requires : tie.Need-marks-gone-requires
+marks-gone-requires c κs = let there = c .before .before in (there .if1 .left, open-fits (open-at (there .before .before)) .used-fit)
+
 sub-length : tie.Need-sub-length
 sub-length c = omega (arith, c .size-of .ensures .0, left-at c)
 
+sub-length-2 : tie.Need-sub-length-2
+sub-length-2 c = omega (arith, c .size-of .ensures .0, left-at c)
+
 named-requires : tie.Need-named-requires
-named-requires c κs = open-fits (open-at (c .before .before .before .before))
+named-requires c κs = open-fits (open-at (told-at c))
 
 returns-3 : tie.Need-returns-3
 unfolding shownOutput
 returns-3 c =
     let why = c .before .before in
     let size = why .before .before in
-    let told = size .before .before .before .before in
-    let start = start-at told .args in
-    let out = start .out .now in
+    let told = told-at size in
+    let out = start-at told .args .out .now in
     let named = why .before .named in
     let answer =
-    stopped-answers (open-at told) (start .row) (size .before .before .if1 .left) out (named .result) _ (why .strike-refusal .result)
+    stopped-answers (open-at told) (row-at size) (there-at size .if1 .left) out (named .result) _ (why .strike-refusal .result)
     (named .ensures) (ap (ltb (length out)) (sym (length-at size))) (why .strike-refusal .ensures) (c .before .if2 .taken) in
     (rw (c .of2 .ensures) (answer .0), answer .1)
 
 write-requires : tie.Need-write-requires
 write-requires c κs =
     let size = c .before .before .before .before in
-    (open-fits (open-at (size .before .before .before .before)), size .before .before .if1 .left, omega (arith, none-due (c .before) .1, length-at size))
+    (open-fits (open-at (told-at size)), there-at size .if1 .left, omega (arith, none-due (c .before) .1, length-at size))
 
 returns-4 : tie.Need-returns-4
 unfolding shownOutput
@@ -99,10 +111,9 @@ returns-4 c =
     let wrote = c .before .before in
     let due = wrote .before .before in
     let size = due .before .before .before in
-    let told = size .before .before .before .before in
-    let start = start-at told .args in
+    let told = told-at size in
     let w = wrote .write in
-    written-answers (open-at told) (start .row) (size .before .before .if1 .left) (start .out .now)
+    written-answers (open-at told) (row-at size) (there-at size .if1 .left) (start-at told .args .out .now)
     (sym (due .before .before .named .ensures) ∙ none-due due .0)
     (omega (arith, none-due due .1, length-at size)) (w .result) (w .last .1 .1 .0) (w .ensures)
 
@@ -118,8 +129,10 @@ strike-spec =
     returns-2
     (λ c. search needs)
     element-copy-out-e
+    marks-gone-requires
     (λ c κs. search needs)
     sub-length
+    sub-length-2
     named-requires
     (λ c κs. search needs)
     (λ c κs. search needs)
