@@ -27,7 +27,9 @@ use Rattle.walk.proofs.Renaming.{walk-kept as walk-renamed}
 use Rattle.strike.specs.Strike.{lower, lowered, struck, names, inUse}
 use Rattle.strike.proofs.Renumbering.{old-lower, lower-apart, lower-still}
 use Rattle.strike.proofs.Closing.{first-other, second-other}
-use Rattle.strike.proofs.Laws.{struck-at, struck-question-at, struck-predicates, unnamed-row, unnamed-question}
+use Rattle.suppliers.specs.Suppliers.{supplierAt, suppliersOf}
+use Rattle.suppliers.proofs.Laws.{suppliers-kept}
+use Rattle.strike.proofs.Laws.{struck-at, struck-question-at, struck-supplier-at, struck-predicates, unnamed-row, unnamed-question}
 
 -- the rows that are left
 abbrev pub Left : ℕ → ℕ → Type 0
@@ -84,6 +86,14 @@ module _ (c : Contents) (r : ℕ) (w : Whole c) (unnamed : inUse r c ≡ false) 
 
   pub possible-as-before : (known request i : ℕ) → Left r i → possible (struck r c .rows) known request (lower r i) ≡ possible (c .rows) known request i
   possible-as-before = possible-kept rows-renamed
+
+  -- and the supplier and the list of suppliers that it had (02, L6)
+  pub supplier-as-before : (i : ℕ) → Left r i → supplierAt (struck r c .suppliers) (lower r i) ≡ supplierAt (c .suppliers) i
+  supplier-as-before i k = struck-supplier-at r c (lower r i) ∙ ap (supplierAt (c .suppliers)) (old-lower r i k)
+
+  pub list-as-before : (i : ℕ) → Left r i →
+      suppliersOf (struck r c .rows) (struck r c .suppliers) (lower r i) ≡ suppliersOf (c .rows) (c .suppliers) i
+  list-as-before = suppliers-kept rows-renamed (c .suppliers) (struck r c .suppliers) supplier-as-before
 
   pub truth-kept : (m j : ℕ) → truth (struck r c .rows) (struck r c .questions) m j ≡ truth (c .rows) (c .questions) m j
   truth-kept = truth-renamed rows-renamed questions-follow

@@ -5,7 +5,7 @@ use entries::refusals::Output;
 use entries::refusals::Refusal;
 use table::Outcome;
 use table::Table;
-use table::suppliers;
+use table::suppliers as marks;
 ghost use mathlib.Core.Path.{_≡_};
 ghost use mathlib.Core.Bool.{cond};
 ghost use mathlib.Core.List.{_++_};
@@ -100,7 +100,7 @@ fn write(t: Table, r: usize, out: &mut [u8]) -> usize
     let used = t.tally.rows;
     let count = used + t.tally.questions - 1;
     let mut at = keep(t, out);
-    let mut force = suppliers::NONE;
+    let mut force = marks::NONE;
     let mut j = 0;
     while j < count {
         let i = if j < r { j } else { j + 1 };
@@ -113,7 +113,7 @@ fn write(t: Table, r: usize, out: &mut [u8]) -> usize
             let question = t.questions[i - used];
             lowered_of(r, question)
         };
-        let n = suppliers::put(&mut out[at..], force, s, e);
+        let n = marks::put(&mut out[at..], force, s, e);
         at = at + n;
         force = s;
         j += 1;
@@ -127,13 +127,13 @@ fn marks_gone(owners: [u8; Table::ROWS], rows: usize, r: usize) -> usize
     ensures { λ n. ⌜ n + markBytes noSupplier (without r (firstOf noSupplier owners rows)) ≡ markBytes noSupplier (firstOf noSupplier owners rows) ⌝ }
 {
     let own = owners[r];
-    let prior = if r == 0 { suppliers::NONE } else { owners[r - 1] };
-    let first = suppliers::change_size(prior, own);
+    let prior = if r == 0 { marks::NONE } else { owners[r - 1] };
+    let first = marks::change_size(prior, own);
     if rows <= r + 1 {
         return first;
     }
     let next = owners[r + 1];
-    first + suppliers::change_size(own, next) - suppliers::change_size(prior, next)
+    first + marks::change_size(own, next) - marks::change_size(prior, next)
 }
 
 // 9 where the row is named, then 11 where the output is too short; 0 for neither.

@@ -2,3 +2,4 @@
 pub mod Flags
 pub mod Listing
 pub mod Laws
+pub mod Unique

@@ -1,4 +1,8 @@
 // The suppliers of the rows that a row reaches.
+use entries::refusals;
+use entries::refusals::Output;
+use entries::refusals::Refusal;
+use table::Outcome;
 use table::Table;
 ghost use mathlib.Core.Path.{_≡_};
 ghost use mathlib.Core.List.{_++_};
@@ -7,7 +11,9 @@ ghost use lib.ListN.{length, drop};
 ghost use Rattle.entries.specs.Entries.{numberLimit};
 ghost use Rattle.table.specs.Steps.{rowLimit};
 ghost use Rattle.decide.specs.Reach.{reachesRow, NameLower, passing};
-ghost use Rattle.suppliers.specs.Suppliers.{has, supplies, flag, Shows};
+ghost use Rattle.entries.specs.Output.{sent, shownOutput, outputOf};
+ghost use Rattle.table.specs.Reading.{reading};
+ghost use Rattle.suppliers.specs.Suppliers.{has, supplies, listOf, flag, Shows};
 
 // The rows that a row reaches: from it downwards, each row that is marked marks those that it names.
 fn reach(t: Table, row: usize) -> [bool; Table::ROWS]
@@ -49,12 +55,13 @@ fn flagged(
 }
 
 // The suppliers of the rows that a row reaches, as flags.
-fn supplied(t: Table, suppliers: [u8; Table::ROWS], row: usize) -> [bool; entries::NUMBERS]
+fn supplied(t: Table, row: usize) -> [bool; entries::NUMBERS]
     requires { ⌜ NameLower (t .rows) × (row < rowLimit) ⌝ }
-    ensures { λ flags. ⌜ Shows flags (supplies (t .rows) suppliers row) ⌝ }
+    ensures { λ flags. ⌜ Shows flags (supplies (t .rows) (t .suppliers) row) ⌝ }
 {
+    let owners = t.suppliers;
     let marks = reach(t, row);
-    flagged(marks, suppliers, row + 1)
+    flagged(marks, owners, row + 1)
 }
 
 // How many flags are set.
@@ -88,4 +95,28 @@ fn put(flags: [bool; entries::NUMBERS], out: &mut [u8]) -> usize
         s += 1;
     }
     n
+}
+
+// The suppliers of all rows that row `row` of a table reaches, itself included, each once, rising, over the front of the output; nothing is written before
+// every refusal is ruled out.
+pub fn suppliers(table: &[u8], row: u32, out: &mut [u8]) -> Output
+    ensures answer { λ r. ⌜ r ≡ shownOutput (sent (listOf (reading (now (table .entry))) row) (length (now (out .entry)))) ⌝ }
+    ensures output { λ r. ⌜ now (out .exit) ≡ outputOf (listOf (reading (now (table .entry))) row) (now (out .entry)) ⌝ }
+{
+    let got = table::read(table);
+    let outcome = got.outcome;
+    let Outcome::Read = outcome else {
+        let why = got.why;
+        return Output::Refused(why);
+    };
+    let t = got.table;
+    let r = row as usize;
+    if t.tally.rows <= r {
+        return Output::Refused(Refusal::of(refusals::NOT_THERE));
+    }
+    let flags = supplied(t, r);
+    if out.len() < count(flags) {
+        return Output::Refused(Refusal::of(refusals::OUTPUT_TOO_SHORT));
+    }
+    Output::Written(put(flags, out))
 }

@@ -12,10 +12,10 @@ use Rattle.suppliers.proofs.supplied.Tie as tie
 
 returns : tie.Need-returns
 returns c s =
-    let args = c .before .before .args in
+    let args = c .before .before .before .args in
     let marks = c .before .reach in
     c .flagged .ensures s
-    ∙ ap (λ (rows : List ℕ). has (args .suppliers) rows s)
+    ∙ ap (λ (rows : List ℕ). has (args .t .suppliers) rows s)
     (ap (λ (n : ℕ). passing n (flag (marks .result))) (add-one (args .row))
     ∙ passing-same (suc (args .row)) (flag (marks .result)) (reachesRow (args .t .rows) (args .row)) (λ i l. marks .ensures i))
 
