@@ -6,14 +6,14 @@ use mathlib.Core.Bool.{Bool, true, false}
 use mathlib.Core.List.{List}
 use mathlib.Core.Logic.{_⊎_, inl, inr, ⊎-elim}
 use Prim.Native.Nat.{ℕ, _<_}
-use lib.ListN.{length, set}
+use lib.ListN.{length, getD, set}
 use lib.Dec.{leb, ltb}
 use borrow.Author.Tests.{lt-leb, le-ltb}
 use Rattle.belnap.proofs.Finite.{never}
 use Rattle.entries.specs.declared.refusals.Refusal.{Refusal}
 use Rattle.entries.specs.Refusals.{notThere, badMask, ifMissing, atNumber, isAmong}
 use Rattle.entries.specs.Said.{Said, answered, refusing, andThen, unless}
-use Rattle.entries.specs.Entries.{onto}
+use Rattle.entries.specs.Entries.{numberLimit, onto}
 use Rattle.entries.specs.Output.{ifShort, sent, outputOf}
 use Rattle.entries.proofs.Numbers.{by-order}
 use Rattle.entries.proofs.Saying.{not-both}
@@ -37,8 +37,9 @@ use Rattle.pierstride.specs.Masks.{beyond, badMasks}
 use Rattle.pierstride.specs.Services.{askedWrongly, countsOf, decidedOf, remainingOf, repliedOf, verdictOf, locatedOf, writtenOf}
 use Rattle.pierstride.specs.Services.{readAnswer, saysDecide, decideAnswer, saysPossible, possibleAnswer, saysVerdict, verdictAnswer}
 use Rattle.pierstride.specs.Services.{saysEntry, entryAnswer, saysStrike, strikeAnswer, strikeOutput}
-use Rattle.pierstride.specs.Services.{toTextAnswer, toTextOutput, fromTextAnswer, fromTextOutput}
-use Rattle.pierstride.specs.Demands.{noOwn, ofDeciding, ofAsking, ofStriking, ofWriting, Due, Tells}
+use Rattle.pierstride.specs.Services.{saysSuppliers, suppliersAnswer, suppliersOutput, toTextAnswer, toTextOutput, fromTextAnswer, fromTextOutput}
+use Rattle.pierstride.specs.Demands.{noOwn, ofDeciding, ofAsking, ofStriking, ofListing, ofWriting, Due, Tells}
+use Rattle.suppliers.specs.Suppliers.{suppliersOf, listOf}
 
 -- a call that writes and refuses leaves the output as it was
 sent-keeps : (x : Said (List ℕ)) (out : List ℕ) → (writtenOf (sent x (length out)) .refusal ≡ 0 → ⊥) → outputOf x out ≡ out
@@ -149,6 +150,26 @@ strike-tells s r out =
     (saysStrike s r out)
     (on-table ofStriking s _ (λ c. struck-due s (missing r c) (inUse r c) (tooShort (length out) r c) _))
 
+-- 8, then 11, for the list of a row's suppliers (02, L6)
+pub suppliers-tells : (s : List ℕ) (r : ℕ) (out : List ℕ) →
+    Tells (Due ofListing s) (sent (saysSuppliers s r) (length out)) (suppliersAnswer s r out .refusal) (suppliersAnswer s r out .place)
+unfolding sent listOf
+suppliers-tells s r out =
+    tells (Due ofListing s) writtenOf (λ a. a .refusal) (λ a. a .place) (never-zero ofListing s refl) (λ v. (refl, refl)) (λ why. (refl, refl))
+    (sent (saysSuppliers s r) (length out)) (go (reading s) refl)
+  where
+    short : (list : List ℕ) (short : Bool) → DueOf (Due ofListing s) (unless (ifShort short) (answered (length list)))
+    short list true = inr (refl, refl)
+    short list false = tt
+
+    room : (list : List ℕ) (absent : Bool) → DueOf (Due ofListing s) (sent (unless (ifMissing absent) (answered list)) (length out))
+    room list true = inr (refl, refl)
+    room list false = short list (ltb (length out) (length list))
+
+    go : (x : Said Contents) → reading s ≡ x → DueOf (Due ofListing s) (sent (listOf x r) (length out))
+    go (answered c) e = room (suppliersOf (c .rows) (c .suppliers) r) (leb (length (c .rows)) r)
+    go (refusing why) e = inl (refused-at s (why .number) (why .place) e)
+
 -- "Demand 1 covers texts too": writing one refuses as reading does, then with 11
 pub to-text-tells : (s out : List ℕ) →
     Tells (Due ofWriting s) (sent (toText s) (length out)) (toTextAnswer s out .refusal) (toTextAnswer s out .place)
@@ -191,6 +212,9 @@ to-text-keeps s out = sent-keeps (toText s) out
 pub from-text-keeps : (text out : List ℕ) → (fromTextAnswer text out .refusal ≡ 0 → ⊥) → fromTextOutput text out ≡ out
 from-text-keeps text out = sent-keeps (fromText text) out
 
+pub suppliers-keeps : (s : List ℕ) (r : ℕ) (out : List ℕ) → (suppliersAnswer s r out .refusal ≡ 0 → ⊥) → suppliersOutput s r out ≡ out
+suppliers-keeps s r out = sent-keeps (saysSuppliers s r) out
+
 pub refusal-keeps-output : (s : List ℕ) (r : ℕ) (out : List ℕ) → (strikeAnswer s r out .refusal ≡ 0 → ⊥) → strikeOutput s r out ≡ out
 refusal-keeps-output s r out h = go (saysStrike s r out) refl h
   where
@@ -205,9 +229,9 @@ number-pointed-at own s n p o h = ⊎-elim (λ w. (w, at-number s n p w h)) (λ 
 
 -- and a number below its limit there mends it: the table is accepted, or refused only beyond
 pub mending-helps : (s : List ℕ) (n p : ℕ) (w : Speaks s n p) (m : Misnames s (w .start) (tallyOf (w .before)) n p) (x : ℕ) →
-    x < limit (formOf (m .kind) .names) (tallyOf (w .before)) → (readAnswer (set s p x) .refusal ≡ 0) ⊎ (p < readAnswer (set s p x) .place)
-mending-helps s n p w m x low = go (reading (set s p x)) refl
+    getD s p 0 < numberLimit → x < limit (formOf (m .kind) .names) (tallyOf (w .before)) → (readAnswer (set s p x) .refusal ≡ 0) ⊎ (p < readAnswer (set s p x) .place)
+mending-helps s n p w m x byte low = go (reading (set s p x)) refl
   where
     go : (said : Said Contents) → reading (set s p x) ≡ said → (countsOf said .refusal ≡ 0) ⊎ (p < countsOf said .place)
     go (answered c) e = inl refl
-    go (refusing why) e = inr (mended s n p w m x low why e)
+    go (refusing why) e = inr (mended s n p w m x byte low why e)

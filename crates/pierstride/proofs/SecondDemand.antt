@@ -19,10 +19,11 @@ use Rattle.belnap.specs.Decisions.{code, coded}
 use Rattle.belnap.proofs.Codes.{coded-code}
 use Rattle.belnap.proofs.Finite.{never}
 use Rattle.entries.specs.declared.Entry.{Entry}
-use Rattle.entries.specs.Said.{answered}
+use Rattle.entries.specs.Said.{Said, answered}
+use Rattle.entries.specs.Output.{sent, outputOf}
 use Rattle.kinds.specs.Kinds.{asRow}
 use Rattle.entries.specs.Entries.{blank}
-use Rattle.table.specs.Contents.{Contents, highest, predicates, others, written}
+use Rattle.table.specs.Contents.{Contents, highest, predicates, ruled, written}
 use Rattle.table.specs.Reading.{reading}
 use Rattle.entries.proofs.Numbers.{by-order}
 use Rattle.table.specs.Whole.{Whole}
@@ -40,16 +41,18 @@ use Rattle.walk.specs.Plain.{walkPlainly}
 use Rattle.walk.proofs.Plain.{unconstrained}
 use Rattle.walk.proofs.Replies.{reply-within, reply-beyond}
 use Rattle.walk.proofs.Answers.{Bounded, nothing-holds, breaking-first}
+use Rattle.suppliers.specs.Suppliers.{supplierAt, listOf}
 use Rattle.strike.specs.Strike.{lower, struck, struckAnswer}
 use Rattle.strike.proofs.Renumbering.{lower-above, lower-below}
 use Rattle.strike.proofs.Laws.{struck-rows, struck-questions}
 use Rattle.strike.proofs.Telling.{Done, done-of, struck-read}
-use Rattle.strike.proofs.Keeping.{decides-as-before, possible-as-before, verdict-kept}
+use Rattle.strike.proofs.Keeping.{decides-as-before, possible-as-before, supplier-as-before, list-as-before, verdict-kept}
 use Rattle.pierstride.specs.declared.Decided.{Decided}
 use Rattle.pierstride.specs.declared.Verdict.{Verdict}
 use Rattle.pierstride.specs.Services.{holding, failing, unfinished, decidedOf, repliedOf, walkOf}
 use Rattle.pierstride.specs.Services.{readAnswer, saysDecide, decideAnswer, saysPossible}
-use Rattle.pierstride.specs.Services.{possibleAnswer, saysVerdict, verdictAnswer, strikeAnswer, strikeOutput}
+use Rattle.pierstride.specs.Services.{possibleAnswer, saysVerdict, verdictAnswer, writtenOf, strikeAnswer, strikeOutput}
+use Rattle.pierstride.specs.Services.{saysSuppliers, suppliersAnswer, suppliersOutput}
 use Rattle.pierstride.specs.Demands.{Breaks, Within}
 use Rattle.pierstride.proofs.Answered.{accepted-bounded, decided, decides, replies}
 use Rattle.pierstride.proofs.FirstDemand.{strike-tells}
@@ -79,6 +82,12 @@ module _ (s t : List ℕ) (c d : Contents) (is : reading s ≡ answered c) (othe
   pub possible-by-rows : (r known request : ℕ) → possibleAnswer s r known request ≡ possibleAnswer t r known request
   unfolding saysPossible
   possible-by-rows r known request = rw (is, other, same)
+
+-- so do verdicts from a table's constraints, rows and questions: nothing but the list looks at suppliers (02, L6)
+pub verdict-by-entries : (s t : List ℕ) (c d : Contents) → reading s ≡ answered c → reading t ≡ answered d → c .constraints ≡ d .constraints →
+    c .rows ≡ d .rows → c .questions ≡ d .questions → (q budget : ℕ) → verdictAnswer s q budget ≡ verdictAnswer t q budget
+unfolding saysVerdict
+verdict-by-entries s t c d is other constraints rows questions q budget = rw (is, other, constraints, rows, questions)
 
 -- a reply, by what the walk found and whether its visits are within the budget
 pub by-reply : {P : Type 0} (b : ℕ) (vs : List Visit) (v : Verdict) → v ≡ repliedOf (replyOf b vs) →
@@ -198,6 +207,26 @@ module _ (s out : List ℕ) (r : ℕ) (done : strikeAnswer s r out .refusal ≡ 
       let there = still-there (of .contents) r (of .there) i other in
       rw (new-read, of .is, there, possible-as-before (of .contents) r whole (of .unnamed) known request i other)
 
+  -- "Striking keeps every row's supplier" (02, L6), and the list of the suppliers of the rows that it reaches
+  pub strike-keeps-suppliers : (c d : Contents) → reading s ≡ answered c → reading new ≡ answered d → (i : ℕ) → (i ≡ r → ⊥) →
+      supplierAt (d .suppliers) (lower r i) ≡ supplierAt (c .suppliers) i
+  strike-keeps-suppliers c d p q i other =
+      let was : of .contents ≡ c = cc (sym (of .is) ∙ p) in
+      let now : struck r (of .contents) ≡ d = cc (sym new-read ∙ q) in
+      rw (← was, ← now) (supplier-as-before (of .contents) r whole (of .unnamed) i other)
+
+  list-kept : (i : ℕ) → (i ≡ r → ⊥) → saysSuppliers new (lower r i) ≡ saysSuppliers s i
+  unfolding listOf
+  list-kept i other =
+      let there = still-there (of .contents) r (of .there) i other in
+      rw (new-read, of .is, there, list-as-before (of .contents) r whole (of .unnamed) i other)
+
+  pub strike-keeps-lists : (i : ℕ) (room : List ℕ) → (i ≡ r → ⊥) →
+      (suppliersAnswer new (lower r i) room ≡ suppliersAnswer s i room) × (suppliersOutput new (lower r i) room ≡ suppliersOutput s i room)
+  strike-keeps-lists i room other =
+      let kept = list-kept i other in
+      (ap (λ (x : Said (List ℕ)). writtenOf (sent x (length room))) kept, ap (λ (x : Said (List ℕ)). outputOf x room) kept)
+
   pub strike-keeps-verdicts : (j budget : ℕ) → verdictAnswer new j budget ≡ verdictAnswer s j budget
   unfolding saysVerdict
   strike-keeps-verdicts j budget = rw (new-read, of .is, struck-questions r (of .contents), verdict-kept (of .contents) r whole (of .unnamed) j budget)
@@ -213,8 +242,9 @@ module _ (s out : List ℕ) (r : ℕ) (done : strikeAnswer s r out .refusal ≡ 
       let front = written (c .constraints) in
       let same : d .constraints ≡ c .constraints = cc (sym q ∙ strike-accepted c p) in
       let begins : (t : List ℕ) (e : Contents) → reading t ≡ answered e → e .constraints ≡ c .constraints → take (length front) t ≡ front =
-      λ t e is same. ap (take (length front)) (sym (of-accepted t e is .1) ∙ written-append (e .constraints) (others e)
-      ∙ ap (λ (es : List Entry). written es ++ written (others e)) same) ∙ take-append-seam front (written (others e)) in
+      λ t e is same. let rest = ruled e ++ e .questions in
+      ap (take (length front)) (sym (of-accepted t e is .1) ∙ written-append (e .constraints) rest
+      ∙ ap (λ (es : List Entry). written es ++ written rest) same) ∙ take-append-seam front (written rest) in
       (same, begins new d q same ∙ sym (begins s c p refl))
 
   -- one row fewer, and every question

@@ -9,6 +9,7 @@ use Rattle.pierstride.proofs.pier_possible.Reads as pier_possible
 use Rattle.pierstride.proofs.pier_verdict.Reads as pier_verdict
 use Rattle.pierstride.proofs.pier_entry.Reads as pier_entry
 use Rattle.pierstride.proofs.pier_strike.Reads as pier_strike
+use Rattle.pierstride.proofs.pier_suppliers.Reads as pier_suppliers
 use Rattle.pierstride.proofs.pier_to_text.Reads as pier_to_text
 use Rattle.pierstride.proofs.pier_from_text.Reads as pier_from_text
 
@@ -29,6 +30,9 @@ one-entry κs args exit = by-definition
 
 pub one-strike : OneOutput pier_strike.Post (λ κs exit. exit .1 .1 .0)
 one-strike κs args e f a b p q = (by-definition a b (p .0) (q .0), by-definition _ _ (p .1) (q .1))
+
+pub one-suppliers : OneOutput pier_suppliers.Post (λ κs exit. exit .1 .1 .0)
+one-suppliers κs args e f a b p q = (by-definition a b (p .0) (q .0), by-definition _ _ (p .1) (q .1))
 
 pub one-to-text : OneOutput pier_to_text.Post (λ κs exit. exit .1 .0)
 one-to-text κs args e f a b p q = (by-definition a b (p .0) (q .0), by-definition _ _ (p .1) (q .1))

@@ -24,7 +24,7 @@ module _ (x : Said (List ℕ)) (out : List ℕ) where
   abbrev answer : Written
   answer = writtenOf (sent x (length out))
 
-  wrote : (bytes : List ℕ) → x ≡ answered bytes → length bytes ≤ length out → Wrote bytes out answer (outputOf x out)
+  pub wrote : (bytes : List ℕ) → x ≡ answered bytes → length bytes ≤ length out → Wrote bytes out answer (outputOf x out)
   unfolding sent outputOf onto
   wrote bytes q l =
       let says : sent x (length out) ≡ answered (length bytes) = rw (q, le-ltb (length out) (length bytes) l) in
@@ -37,7 +37,7 @@ module _ (x : Said (List ℕ)) (out : List ℕ) where
         behind = ap₂ drop long holds ∙ drop-append-seam bytes (drop (length bytes) out) ∙ ap (λ (n : ℕ). drop n out) (sym long);
       }
 
-  had : (n : ℕ) → sent x (length out) ≡ answered n → (bytes : List ℕ) × (x ≡ answered bytes) × (length bytes ≤ length out)
+  pub had : (n : ℕ) → sent x (length out) ≡ answered n → (bytes : List ℕ) × (x ≡ answered bytes) × (length bytes ≤ length out)
   unfolding sent
   had n q = go x refl q
     where

@@ -28,6 +28,9 @@ ofAsking = notThere ∷ []
 abbrev pub ofStriking : List ℕ
 ofStriking = notThere ∷ stillNamed ∷ outputTooShort ∷ []
 
+abbrev pub ofListing : List ℕ
+ofListing = notThere ∷ outputTooShort ∷ []
+
 abbrev pub ofWriting : List ℕ
 ofWriting = outputTooShort ∷ []
 

@@ -22,6 +22,7 @@ use Rattle.possible.specs.Possible.{possible}
 use Rattle.walk.specs.declared.Reply.{Reply}
 use Rattle.walk.specs.declared.Reply.the-variants.{Holds, Fails, Unfinished}
 use Rattle.walk.specs.Walk.{Visit, walk, replyOf}
+use Rattle.suppliers.specs.Suppliers.{listOf}
 use Rattle.strike.specs.Strike.{struckAnswer, struckOutput}
 use Rattle.text.specs.Calls.{toText, fromText}
 use Rattle.pierstride.specs.declared.Written.{Written}
@@ -127,6 +128,16 @@ strikeAnswer s r out = writtenOf (saysStrike s r out)
 
 abbrev pub strikeOutput : List ℕ → ℕ → List ℕ → List ℕ
 strikeOutput s r out = struckOutput (reading s) r out
+
+-- "A new call lists the suppliers of all rows a row reaches, itself included, each once, rising" (02, L6)
+abbrev pub saysSuppliers : List ℕ → ℕ → Said (List ℕ)
+saysSuppliers s r = listOf (reading s) r
+
+abbrev pub suppliersAnswer : List ℕ → ℕ → List ℕ → Written
+suppliersAnswer s r out = writtenOf (sent (saysSuppliers s r) (length out))
+
+abbrev pub suppliersOutput : List ℕ → ℕ → List ℕ → List ℕ
+suppliersOutput s r out = outputOf (saysSuppliers s r) out
 
 -- "Write and read a text of one line an entry" (02, L2)
 abbrev pub toTextAnswer : List ℕ → List ℕ → Written

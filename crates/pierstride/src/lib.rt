@@ -14,6 +14,7 @@ ghost use Rattle.table.specs.Steps.{predicateLimit};
 ghost use Rattle.pierstride.specs.Services.{askedWrongly, countsOf, decidedOf, remainingOf, verdictOf, repliedOf};
 ghost use Rattle.pierstride.specs.Services.{writtenBy, toTextAnswer, toTextOutput, fromTextAnswer, fromTextOutput};
 ghost use Rattle.pierstride.specs.Services.{readAnswer, decideAnswer, possibleAnswer, verdictAnswer, entryAnswer, strikeAnswer, strikeOutput};
+ghost use Rattle.pierstride.specs.Services.{suppliersAnswer, suppliersOutput};
 
 // How many rows and questions a table has, and n.
 #[repr(C)]
@@ -332,6 +333,15 @@ pub extern "C" fn pier_strike(table: &[u8], row: u32, out: &mut [u8]) -> Written
     ensures output { λ r. ⌜ now (out .exit) ≡ strikeOutput (now (table .entry)) row (now (out .entry)) ⌝ }
 {
     answer_of(strike::strike(table, row, out))
+}
+
+// The suppliers of the rows that a row reaches, itself included, each once, rising, over the front of the lent output; a refusal changes no lent byte.
+#[no_mangle]
+pub extern "C" fn pier_suppliers(table: &[u8], row: u32, out: &mut [u8]) -> Written
+    ensures answer { λ r. ⌜ r ≡ suppliersAnswer (now (table .entry)) row (now (out .entry)) ⌝ }
+    ensures output { λ r. ⌜ now (out .exit) ≡ suppliersOutput (now (table .entry)) row (now (out .entry)) ⌝ }
+{
+    answer_of(suppliers::suppliers(table, row, out))
 }
 
 // The text of a table, over the front of the lent output; a refusal changes no lent byte.
