@@ -137,8 +137,12 @@ module _ (s : List ℕ) (c : Contents) (r : ℕ) (q : reading s ≡ answered c) 
       let rows : written (marked noSupplier (c .suppliers) (c .rows)) ≡ written before ++ (own ++ written behind) =
       ap written around-rows ∙ written-append before (getD (c .rows) r blank ∷ behind) in
       append-assoc constraints (written before) (own ++ back)
-      ∙ ap (λ (l : List ℕ). constraints ++ l) (sym (rw (rows, append-assoc (written before) (own ++ written behind) questions, append-assoc own (written behind)
-      questions)))
+      ∙ ap (λ (l : List ℕ). constraints ++ l) (sym (rw (
+        rows,
+        append-assoc (written before) (own ++ written behind) questions,
+        append-assoc own (written behind)
+            questions,
+      )))
       ∙ sym (written-parts c (whole .settles)) ∙ of-accepted s c q .1
 
   -- the row's part lies inside, and holds the row's own bytes

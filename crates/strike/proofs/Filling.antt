@@ -47,8 +47,14 @@ module _ (t : Table) (r : ℕ) (u : r < t .tally .rows) where
 
   left-count : length (others left) ≡ used + asked - 1
   left-count =
-      omega (arith, length-append (left .rows) (left .questions), struck-rows r (contentsIn t) there, rows-count t, struck-questions r (contentsIn t),
-      questions-count t)
+      omega (
+        arith,
+        length-append (left .rows) (left .questions),
+        struck-rows r (contentsIn t) there,
+        rows-count t,
+        struck-questions r (contentsIn t),
+        questions-count t,
+      )
 
   left-entries : entries left ≡ constraints ++ marked noSupplier (owners left) (others left)
   left-entries = ap (λ (es : List Entry). constraints ++ es) (others-marked left left-each refl)
@@ -93,35 +99,35 @@ module _ (t : Table) (r : ℕ) (u : r < t .tally .rows) where
 
   -- entry j, as the code takes it, from its number i among the others of the table; and its supplier
   module _ {A B : Type 0} (j i : ℕ) (l : j < used + asked - 1) (below : A → (j < r) × (i ≡ j)) (above : B → (r ≤ j) × (i ≡ j + 1)) (number : A ⊎ B)
-      where
-    is-old : i ≡ old r j
-    is-old = ⊎-elim (λ w. below w .1 ∙ sym (old-below r j (below w .0))) (λ w. above w .1 ∙ add-one j ∙ sym (old-above r j (above w .0))) number
+    where
+      is-old : i ≡ old r j
+      is-old = ⊎-elim (λ w. below w .1 ∙ sym (old-below r j (below w .0))) (λ w. above w .1 ∙ add-one j ∙ sym (old-above r j (above w .0))) number
 
-    inside : i < used + asked
-    inside = ⊎-elim (λ w. let b = below w in omega arith) (λ w. let b = above w in omega arith) number
+      inside : i < used + asked
+      inside = ⊎-elim (λ w. let b = below w in omega arith) (λ w. let b = above w in omega arith) number
 
-    pub left-next : {C D : Type 0} (g : Entry) → (C → (i < used) × (g ≡ lowered r (getD (t .rows) i blank))) →
-        (D → (used ≤ i) × (g ≡ lowered r (getD (t .questions) (i - used) blank))) → C ⊎ D → g ≡ getD (others left) j blank
-    left-next g row question entry =
-        let m : g ≡ lowered r (getD (others (contentsIn t)) i blank) =
-        ⊎-elim (λ w. row w .1 ∙ ap (lowered r) (sym (other-row t i (row w .0))))
-        (λ w. question w .1 ∙ ap (lowered r) (sym (other-question t i (question w .0) inside))) entry in
-        m ∙ ap (λ (i : ℕ). lowered r (getD (others (contentsIn t)) i blank)) is-old
-        ∙ sym (ap (λ (es : List Entry). getD es j blank) (struck-others r (contentsIn t) there) ∙ closed-at r (others (contentsIn t)) j)
+      pub left-next : {C D : Type 0} (g : Entry) → (C → (i < used) × (g ≡ lowered r (getD (t .rows) i blank))) →
+          (D → (used ≤ i) × (g ≡ lowered r (getD (t .questions) (i - used) blank))) → C ⊎ D → g ≡ getD (others left) j blank
+      left-next g row question entry =
+          let m : g ≡ lowered r (getD (others (contentsIn t)) i blank) =
+          ⊎-elim (λ w. row w .1 ∙ ap (lowered r) (sym (other-row t i (row w .0))))
+          (λ w. question w .1 ∙ ap (lowered r) (sym (other-question t i (question w .0) inside))) entry in
+          m ∙ ap (λ (i : ℕ). lowered r (getD (others (contentsIn t)) i blank)) is-old
+          ∙ sym (ap (λ (es : List Entry). getD es j blank) (struck-others r (contentsIn t) there) ∙ closed-at r (others (contentsIn t)) j)
 
-    pub left-owner : {C D : Type 0} (s : ℕ) → (C → (i < used) × (s ≡ getD (t .suppliers) i noSupplier)) → (D → (used ≤ i) × (s ≡ inForce j)) → C ⊎ D →
-        s ≡ getD (owners left) j noSupplier
-    left-owner s row question =
-        let rows = struck-rows r (contentsIn t) there in
-        let at : i < used → j < length (left .rows) = λ h. ⊎-elim (λ w. let b = below w in omega (arith, rows, rows-count t))
-        (λ w. let b = above w in omega (arith, rows, rows-count t)) number in
-        let past : used ≤ i → length (left .rows) ≤ j = λ h. ⊎-elim (λ w. let b = below w in absurd (omega arith))
-        (λ w. let b = above w in omega (arith, rows, rows-count t)) number in
-        let own : i < used → getD (owners left) j noSupplier ≡ getD (t .suppliers) i noSupplier =
-        λ h. owner-of-row left left-each refl j (at h) ∙ struck-supplier-at r (contentsIn t) j
-        ∙ ap (λ (i : ℕ). getD (suppliersIn t) i noSupplier) (sym is-old) ∙ first-at noSupplier (t .suppliers) used i h in
-        ⊎-elim (λ w. row w .1 ∙ sym (own (row w .0)))
-        (λ w. question w .1 ∙ sym (owner-past-rows left left-each refl j (past (question w .0)) (omega (arith, left-count))))
+      pub left-owner : {C D : Type 0} (s : ℕ) → (C → (i < used) × (s ≡ getD (t .suppliers) i noSupplier)) → (D → (used ≤ i) × (s ≡ inForce j)) → C ⊎ D →
+          s ≡ getD (owners left) j noSupplier
+      left-owner s row question =
+          let rows = struck-rows r (contentsIn t) there in
+          let at : i < used → j < length (left .rows) = λ h. ⊎-elim (λ w. let b = below w in omega (arith, rows, rows-count t))
+          (λ w. let b = above w in omega (arith, rows, rows-count t)) number in
+          let past : used ≤ i → length (left .rows) ≤ j = λ h. ⊎-elim (λ w. let b = below w in absurd (omega arith))
+          (λ w. let b = above w in omega (arith, rows, rows-count t)) number in
+          let own : i < used → getD (owners left) j noSupplier ≡ getD (t .suppliers) i noSupplier =
+          λ h. owner-of-row left left-each refl j (at h) ∙ struck-supplier-at r (contentsIn t) j
+          ∙ ap (λ (i : ℕ). getD (suppliersIn t) i noSupplier) (sym is-old) ∙ first-at noSupplier (t .suppliers) used i h in
+          ⊎-elim (λ w. row w .1 ∙ sym (own (row w .0)))
+          (λ w. question w .1 ∙ sym (owner-past-rows left left-each refl j (past (question w .0)) (omega (arith, left-count))))
 
 -- the first of some entries stand in the output, up to a place, and behind them what was there; all of them fit
 pub record Filled (all : List Entry) (before : List ℕ) (done : List Entry) (at : ℕ) (out : List ℕ) : Type 0 where
@@ -141,8 +147,14 @@ module _ {all : List Entry} {before : List ℕ} {done : List Entry} {at : ℕ} {
 
   pub filled-within : at ≤ length before
   filled-within =
-      omega (arith, ap (λ (es : List Entry). length (written es)) (f .parts), ap length (written-append done (f .rest)),
-      length-append (written done) (written (f .rest)), f .place, f .fits)
+      omega (
+        arith,
+        ap (λ (es : List Entry). length (written es)) (f .parts),
+        ap length (written-append done (f .rest)),
+        length-append (written done) (written (f .rest)),
+        f .place,
+        f .fits,
+      )
 
   pub filled-length : length out ≡ length before
   filled-length = ap length (f .bytes) ∙ length-append (written done) (drop at before) ∙ omega (arith, f .place, length-drop at before, filled-within)

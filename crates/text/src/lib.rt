@@ -102,8 +102,8 @@ pub fn to_text(table: &[u8], out: &mut [u8]) -> Output
 }
 
 // No table has more bytes, with a supplier that waits for its row.
-const BYTES: usize = entries::LONGEST
-    * (Table::CONSTRAINTS + (Table::ROWS + Table::QUESTIONS)) + suppliers::SIZE * (Table::ROWS + 1);
+const BYTES: usize = entries::LONGEST * (Table::CONSTRAINTS + (Table::ROWS + Table::QUESTIONS))
+    + suppliers::SIZE * (Table::ROWS + 1);
 
 // The bytes of the table that a text spells, and how many they are; or the refusal, whose number is 0 where there is none.
 pub struct Gathered {

@@ -25,8 +25,14 @@ sized : (c : tie.After-size-of) → c .before .change-size .result + c .size-of 
 sized c =
     let a = start-at c .args in
     let mark = written (change (a .force) (a .s)) in
-    omega (arith, c .before .change-size .ensures .0, c .size-of .ensures .0, ap length (written-more (change (a .force) (a .s)) (a .e)), length-append mark
-    (bytesOf (a .e)))
+    omega (
+      arith,
+      c .before .change-size .ensures .0,
+      c .size-of .ensures .0,
+      ap length (written-more (change (a .force) (a .s)) (a .e)),
+      length-append mark
+          (bytesOf (a .e)),
+    )
 
 returns : tie.Need-returns
 returns c = (sized (c .before), onto-short (bytes-at (c .before)) (start-at (c .before) .args .out .now) (omega (arith, c .if1 .taken, sized (c .before))))
