@@ -1,6 +1,6 @@
 // Runs every case of the old desk's notebook (01) that is not marked P, through the services, and prints each with what came back;
-// then tables with a number that is not below its limit (02, L1), cases of a row against itself (by 02's L3), and tables with
-// constraints (02, L5); then takes rows out of tables, each as a part of the table, or with the companion's refusal.
+// then tables with a number that is not below its limit (02, L1), cases of a row against itself (by 02's L3), tables with
+// constraints (02, L5) and with suppliers (02, L6); then takes rows out of tables, each as a part of the table, or with the companion's refusal.
 use libc::STDOUT_FILENO;
 
 // Table A; question 2 asks if row 2 is free of conflict.
@@ -122,27 +122,40 @@ fn bytes(part: &[u8]) {
     }
 }
 
-// Striking a row of the strike cases' table.
-fn strikes(row: u32) {
-    field(b"00 02 20 01 40 01 02, strike ", row as u64);
+// The bytes that a call wrote over the front of an output, or its refusal.
+fn wrote(refusal: u32, place: usize, written: usize, out: &[u8]) {
     text(b":");
-    let s = S;
-    let mut out = [0u8; 7];
-    let struck = pierstride::pier_strike(&s, row, &mut out);
-    if struck.refusal != 0 {
+    if refusal != 0 {
         text(b" ");
-        refused(struck.refusal, struck.place);
+        refused(refusal, place);
         return;
     }
-    let written = struck.length;
     let mut i = 0;
-    while i < 7 {
+    while i < out.len() {
         if i < written {
             hex(out[i]);
         }
         i += 1;
     }
     end_line();
+}
+
+// Striking a row.
+fn strikes(name: &[u8], table: &[u8], row: u32) {
+    text(name);
+    field(b", strike ", row as u64);
+    let mut out = [0u8; 7];
+    let struck = pierstride::pier_strike(table, row, &mut out);
+    wrote(struck.refusal, struck.place, struck.length, &out);
+}
+
+// The suppliers of the rows that a row reaches.
+fn lists(name: &[u8], table: &[u8], row: u32) {
+    text(name);
+    field(b", suppliers of row ", row as u64);
+    let mut out = [0u8; 7];
+    let listed = pierstride::pier_suppliers(table, row, &mut out);
+    wrote(listed.refusal, listed.place, listed.length, &out);
 }
 
 // A row's own bytes, or why there are none.
@@ -191,9 +204,9 @@ fn short_tables() {
 
 fn strike_cases() {
     let s = S;
-    strikes(0);
-    strikes(1);
-    strikes(3);
+    strikes(b"00 02 20 01 40 01 02", &s, 0);
+    strikes(b"00 02 20 01 40 01 02", &s, 1);
+    strikes(b"00 02 20 01 40 01 02", &s, 3);
     asks(b"00 02 20 01 40 01 02, question 0", &s, 0, 1000000);
     asks(b"00 02 20 01 40 01 02, question 0", &s, 0, 0);
 }
@@ -253,6 +266,19 @@ fn constrained() {
     reads(b"00 50 00 01", b"\x00\x50\x00\x01");
 }
 
+// A supplier that no row follows, and one whose row is cut short; 60s that vanish or appear when a row is struck; whose rows a row reaches.
+fn supplied() {
+    reads(b"60 05 40", b"\x60\x05\x40");
+    reads(b"60 05 20", b"\x60\x05\x20");
+    strikes(b"00 60 01 00 60 00 00", b"\x00\x60\x01\x00\x60\x00\x00", 1);
+    strikes(b"00 60 01 00 00", b"\x00\x60\x01\x00\x00", 1);
+    lists(
+        b"60 09 00 60 00 00 60 09 20 00 60 04 20 02",
+        b"\x60\x09\x00\x60\x00\x00\x60\x09\x20\x00\x60\x04\x20\x02",
+        3,
+    );
+}
+
 fn rows_taken(a: &[u8]) {
     takes(b"A", a, 0);
     takes(b"A", a, 2);
@@ -266,6 +292,7 @@ fn rows_taken(a: &[u8]) {
         b"\x51\x00\x02\x11\x00\x00\x40\x00\x01",
         0,
     );
+    takes(b"00 60 01 20 00", b"\x00\x60\x01\x20\x00", 1);
 }
 
 fn main() {
@@ -281,6 +308,7 @@ fn main() {
     numbers_too_high();
     against_itself();
     constrained();
+    supplied();
     rows_taken(&a);
     takes(b"empty table", &zeros[..0], 0);
 }
