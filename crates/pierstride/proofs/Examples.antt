@@ -84,6 +84,9 @@ unfolding reading readOn after stepOf judged placed permitted offending noRoom d
 strikes = (refl, refl, refl)
 
 -- rows 0 to 3 of suppliers 9, 0, 9 and 4, of which row 3 names row 2, and that row 0: its list; "itself included", "each once, rising"
-pub lists : saysSuppliers (0x60 ∷ 0x09 ∷ 0x00 ∷ 0x60 ∷ 0x00 ∷ 0x00 ∷ 0x60 ∷ 0x09 ∷ 0x20 ∷ 0x00 ∷ 0x60 ∷ 0x04 ∷ 0x20 ∷ 0x02 ∷ []) 3 ≡ answered (4 ∷ 9 ∷ [])
+abbrev owned : List ℕ
+owned = 0x60 ∷ 0x09 ∷ 0x00 ∷ 0x60 ∷ 0x00 ∷ 0x00 ∷ 0x60 ∷ 0x09 ∷ 0x20 ∷ 0x00 ∷ 0x60 ∷ 0x04 ∷ 0x20 ∷ 0x02 ∷ []
+
+pub lists : saysSuppliers owned 3 ≡ answered (4 ∷ 9 ∷ [])
 unfolding listOf passing reachesWithin reading readOn after stepOf judged placed permitted offending noRoom decoded bodyOf kindOf bytesOf
 lists = refl

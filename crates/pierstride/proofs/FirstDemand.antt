@@ -229,7 +229,8 @@ number-pointed-at own s n p o h = ⊎-elim (λ w. (w, at-number s n p w h)) (λ 
 
 -- and a number below its limit there mends it: the table is accepted, or refused only beyond
 pub mending-helps : (s : List ℕ) (n p : ℕ) (w : Speaks s n p) (m : Misnames s (w .start) (tallyOf (w .before)) n p) (x : ℕ) →
-    getD s p 0 < numberLimit → x < limit (formOf (m .kind) .names) (tallyOf (w .before)) → (readAnswer (set s p x) .refusal ≡ 0) ⊎ (p < readAnswer (set s p x) .place)
+    getD s p 0 < numberLimit → x < limit (formOf (m .kind) .names) (tallyOf (w .before)) →
+    (readAnswer (set s p x) .refusal ≡ 0) ⊎ (p < readAnswer (set s p x) .place)
 mending-helps s n p w m x byte low = go (reading (set s p x)) refl
   where
     go : (said : Said Contents) → reading (set s p x) ≡ said → (countsOf said .refusal ≡ 0) ⊎ (p < countsOf said .place)

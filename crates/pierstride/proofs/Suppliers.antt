@@ -73,8 +73,8 @@ module _ (s : List ℕ) (r : ℕ) (out : List ℕ) (done : suppliersAnswer s r o
     list-rises i j h l = rw list-is (suppliers-rise (c .rows) (c .suppliers) r i j h (rw list-is at l))
 
 -- "every table of rows and suppliers has one encoding": two accepted tables with the same constraints, rows, suppliers and questions are the same bytes
-pub one-encoding : (s t : List ℕ) (c d : Contents) → reading s ≡ answered c → reading t ≡ answered d → c .constraints ≡ d .constraints → c .rows ≡ d .rows →
-    c .suppliers ≡ d .suppliers → c .questions ≡ d .questions → s ≡ t
+pub one-encoding : (s t : List ℕ) (c d : Contents) → reading s ≡ answered c → reading t ≡ answered d → c .constraints ≡ d .constraints →
+    c .rows ≡ d .rows → c .suppliers ≡ d .suppliers → c .questions ≡ d .questions → s ≡ t
 one-encoding s t c d is other constraints rows suppliers questions =
     let from = of-accepted s c is in
     let to = of-accepted t d other in

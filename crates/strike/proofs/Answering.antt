@@ -47,7 +47,8 @@ turned-answers s r out why q = (
 
 -- how long a table is, part by part
 parts-length : (c : Contents) → c .supplier ≡ lastSupplier c → length (c .suppliers) ≡ length (c .rows) →
-    length (encoded c) ≡ length (written (c .constraints)) + (length (written (c .rows)) + markBytes noSupplier (c .suppliers) + length (written (c .questions)))
+    length (encoded c)
+    ≡ length (written (c .constraints)) + (length (written (c .rows)) + markBytes noSupplier (c .suppliers) + length (written (c .questions)))
 parts-length c settles many =
     let constraints = written (c .constraints) in
     let rows = written (marked noSupplier (c .suppliers) (c .rows)) in
@@ -90,14 +91,16 @@ module _ {s : List ℕ} {got : Reading} (o : Opened s got) where
     bytes = ap (struckBytes r) open-contents
 
     -- the bytes to write are the table's but for the row's own and the 60s that go with it
-    pub bytes-left : (marks : ℕ) → marks + markBytes noSupplier (without r (suppliersIn (got .table))) ≡ markBytes noSupplier (suppliersIn (got .table)) →
+    pub bytes-left : (marks : ℕ) →
+        marks + markBytes noSupplier (without r (suppliersIn (got .table))) ≡ markBytes noSupplier (suppliersIn (got .table)) →
         sizeOf (getD (got .table .rows) r blank) + (marks + length (struckBytes r (contentsIn (got .table)))) ≡ length s
     bytes-left marks gone =
         let t = got .table in
         let c = contentsIn t in
         let d = struck r c in
         let u : r < length (c .rows) = rw (rows-count t) h in
-        let all : length (encoded c) ≡ length s = ap (λ (c : Contents). length (encoded c)) open-contents ∙ ap length (of-accepted s (o .contents) (o .is) .1) in
+        let all : length (encoded c) ≡ length s =
+        ap (λ (c : Contents). length (encoded c)) open-contents ∙ ap length (of-accepted s (o .contents) (o .is) .1) in
         let own : sizeOf (getD (c .rows) r blank) ≡ sizeOf (getD (t .rows) r blank) = ap sizeOf (first-at blank (t .rows) (t .tally .rows) r h) in
         omega (
           arith,

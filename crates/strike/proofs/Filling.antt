@@ -98,36 +98,37 @@ module _ (t : Table) (r : ℕ) (u : r < t .tally .rows) where
       rw (all, take-length (others left), ← both-count, take-length (owners left)) (sym left-entries)
 
   -- entry j, as the code takes it, from its number i among the others of the table; and its supplier
-  module _ {A B : Type 0} (j i : ℕ) (l : j < used + asked - 1) (below : A → (j < r) × (i ≡ j)) (above : B → (r ≤ j) × (i ≡ j + 1)) (number : A ⊎ B)
-    where
-      is-old : i ≡ old r j
-      is-old = ⊎-elim (λ w. below w .1 ∙ sym (old-below r j (below w .0))) (λ w. above w .1 ∙ add-one j ∙ sym (old-above r j (above w .0))) number
+  module _ {A B : Type 0} (j i : ℕ) (l : j < used + asked - 1) (below : A → (j < r) × (i ≡ j)) (above : B → (r ≤ j) × (i ≡ j + 1))
+      (number : A ⊎ B) where
+    is-old : i ≡ old r j
+    is-old = ⊎-elim (λ w. below w .1 ∙ sym (old-below r j (below w .0))) (λ w. above w .1 ∙ add-one j ∙ sym (old-above r j (above w .0))) number
 
-      inside : i < used + asked
-      inside = ⊎-elim (λ w. let b = below w in omega arith) (λ w. let b = above w in omega arith) number
+    inside : i < used + asked
+    inside = ⊎-elim (λ w. let b = below w in omega arith) (λ w. let b = above w in omega arith) number
 
-      pub left-next : {C D : Type 0} (g : Entry) → (C → (i < used) × (g ≡ lowered r (getD (t .rows) i blank))) →
-          (D → (used ≤ i) × (g ≡ lowered r (getD (t .questions) (i - used) blank))) → C ⊎ D → g ≡ getD (others left) j blank
-      left-next g row question entry =
-          let m : g ≡ lowered r (getD (others (contentsIn t)) i blank) =
-          ⊎-elim (λ w. row w .1 ∙ ap (lowered r) (sym (other-row t i (row w .0))))
-          (λ w. question w .1 ∙ ap (lowered r) (sym (other-question t i (question w .0) inside))) entry in
-          m ∙ ap (λ (i : ℕ). lowered r (getD (others (contentsIn t)) i blank)) is-old
-          ∙ sym (ap (λ (es : List Entry). getD es j blank) (struck-others r (contentsIn t) there) ∙ closed-at r (others (contentsIn t)) j)
+    pub left-next : {C D : Type 0} (g : Entry) → (C → (i < used) × (g ≡ lowered r (getD (t .rows) i blank))) →
+        (D → (used ≤ i) × (g ≡ lowered r (getD (t .questions) (i - used) blank))) → C ⊎ D → g ≡ getD (others left) j blank
+    left-next g row question entry =
+        let m : g ≡ lowered r (getD (others (contentsIn t)) i blank) =
+        ⊎-elim (λ w. row w .1 ∙ ap (lowered r) (sym (other-row t i (row w .0))))
+        (λ w. question w .1 ∙ ap (lowered r) (sym (other-question t i (question w .0) inside))) entry in
+        m ∙ ap (λ (i : ℕ). lowered r (getD (others (contentsIn t)) i blank)) is-old
+        ∙ sym (ap (λ (es : List Entry). getD es j blank) (struck-others r (contentsIn t) there) ∙ closed-at r (others (contentsIn t)) j)
 
-      pub left-owner : {C D : Type 0} (s : ℕ) → (C → (i < used) × (s ≡ getD (t .suppliers) i noSupplier)) → (D → (used ≤ i) × (s ≡ inForce j)) → C ⊎ D →
-          s ≡ getD (owners left) j noSupplier
-      left-owner s row question =
-          let rows = struck-rows r (contentsIn t) there in
-          let at : i < used → j < length (left .rows) = λ h. ⊎-elim (λ w. let b = below w in omega (arith, rows, rows-count t))
-          (λ w. let b = above w in omega (arith, rows, rows-count t)) number in
-          let past : used ≤ i → length (left .rows) ≤ j = λ h. ⊎-elim (λ w. let b = below w in absurd (omega arith))
-          (λ w. let b = above w in omega (arith, rows, rows-count t)) number in
-          let own : i < used → getD (owners left) j noSupplier ≡ getD (t .suppliers) i noSupplier =
-          λ h. owner-of-row left left-each refl j (at h) ∙ struck-supplier-at r (contentsIn t) j
-          ∙ ap (λ (i : ℕ). getD (suppliersIn t) i noSupplier) (sym is-old) ∙ first-at noSupplier (t .suppliers) used i h in
-          ⊎-elim (λ w. row w .1 ∙ sym (own (row w .0)))
-          (λ w. question w .1 ∙ sym (owner-past-rows left left-each refl j (past (question w .0)) (omega (arith, left-count))))
+    pub left-owner : {C D : Type 0} (s : ℕ) → (C → (i < used) × (s ≡ getD (t .suppliers) i noSupplier)) →
+        (D → (used ≤ i) × (s ≡ inForce j)) → C ⊎ D →
+        s ≡ getD (owners left) j noSupplier
+    left-owner s row question =
+        let rows = struck-rows r (contentsIn t) there in
+        let at : i < used → j < length (left .rows) = λ h. ⊎-elim (λ w. let b = below w in omega (arith, rows, rows-count t))
+        (λ w. let b = above w in omega (arith, rows, rows-count t)) number in
+        let past : used ≤ i → length (left .rows) ≤ j = λ h. ⊎-elim (λ w. let b = below w in absurd (omega arith))
+        (λ w. let b = above w in omega (arith, rows, rows-count t)) number in
+        let own : i < used → getD (owners left) j noSupplier ≡ getD (t .suppliers) i noSupplier =
+        λ h. owner-of-row left left-each refl j (at h) ∙ struck-supplier-at r (contentsIn t) j
+        ∙ ap (λ (i : ℕ). getD (suppliersIn t) i noSupplier) (sym is-old) ∙ first-at noSupplier (t .suppliers) used i h in
+        ⊎-elim (λ w. row w .1 ∙ sym (own (row w .0)))
+        (λ w. question w .1 ∙ sym (owner-past-rows left left-each refl j (past (question w .0)) (omega (arith, left-count))))
 
 -- the first of some entries stand in the output, up to a place, and behind them what was there; all of them fit
 pub record Filled (all : List Entry) (before : List ℕ) (done : List Entry) (at : ℕ) (out : List ℕ) : Type 0 where
@@ -216,10 +217,13 @@ module _ (t : Table) (r : ℕ) (u : r < t .tally .rows) (first out : List ℕ) (
         bytes = q ∙ ap (λ (l : List ℕ). written constraints ++ l) (sym (first-written (written constraints) first out n n p q (omega arith)));
       })
 
-  pub left-written : (at : ℕ) (last : List ℕ) → (at ≡ length (written (entries (left t r u)))) × (last ≡ written (entries (left t r u)) ++ drop at out) →
-      (at ≡ length (written (entries (left t r u)))) × (last ≡ written (entries (left t r u)) ++ drop at first)
+  abbrev struck-bytes : List ℕ
+  struck-bytes = written (entries (left t r u))
+
+  pub left-written : (at : ℕ) (last : List ℕ) → (at ≡ length struck-bytes) × (last ≡ struck-bytes ++ drop at out) →
+      (at ≡ length struck-bytes) × (last ≡ struck-bytes ++ drop at first)
   left-written at last w =
       let constraints = contentsIn t .constraints in
       let rest = ruled (left t r u) ++ left t r u .questions in
       let far : n ≤ at = omega (arith, p, w .0, ap length (written-append constraints rest), length-append (written constraints) (written rest)) in
-      (w .0, w .1 ∙ ap (λ (l : List ℕ). written (entries (left t r u)) ++ l) (first-written (written constraints) first out n at p q far))
+      (w .0, w .1 ∙ ap (λ (l : List ℕ). struck-bytes ++ l) (first-written (written constraints) first out n at p q far))

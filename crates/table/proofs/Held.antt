@@ -106,7 +106,8 @@ module _ (c : Contents) (many : length (c .suppliers) ≡ length (c .rows)) (set
   pub owner-of-row : (i : ℕ) → i < length (c .rows) → getD (owners c) i noSupplier ≡ getD (c .suppliers) i noSupplier
   owner-of-row i l = List·getD-append (c .suppliers) (replicate (length (c .questions)) (lastSupplier c)) noSupplier i (omega (arith, many))
 
-  pub owner-past-rows : (i : ℕ) → length (c .rows) ≤ i → i < length (others c) → getD (owners c) i noSupplier ≡ lastOf noSupplier (take i (owners c))
+  pub owner-past-rows : (i : ℕ) → length (c .rows) ≤ i → i < length (others c) →
+      getD (owners c) i noSupplier ≡ lastOf noSupplier (take i (owners c))
   owner-past-rows i h l =
       let last = lastSupplier c in
       let n = length (c .questions) in
@@ -218,7 +219,8 @@ module _ (t : Table) where
   pub numbered-at : {A B C : Type 0} (i : ℕ) (e : Entry) → i < bound + used + asked →
       (A → (i < bound) × (e ≡ getD (t .constraints) i blank)) →
       (B → (bound ≤ i) × (i < bound + used) × (e ≡ getD (t .rows) (i - bound) blank)) →
-      (C → (bound + used ≤ i) × (e ≡ getD (t .questions) (i - (bound + used)) blank)) → A ⊎ (B ⊎ C) → e ≡ getD (numbered (contentsIn t)) i blank
+      (C → (bound + used ≤ i) × (e ≡ getD (t .questions) (i - (bound + used)) blank)) → A ⊎ (B ⊎ C) →
+      e ≡ getD (numbered (contentsIn t)) i blank
   numbered-at i e l constraint row question =
       ⊎-elim (λ w. constraint w .1 ∙ sym (numbered-constraint i (constraint w .0)))
       (⊎-elim (λ w. row w .2 ∙ sym (numbered-row i (row w .0) (row w .1)))
@@ -241,7 +243,8 @@ module _ (t : Table) where
       let later : bound + used ≤ i → getD more (i - bound) noSupplier ≡ lastOf (lastOf noSupplier front) (take (i - bound) more) =
       λ h. rw same (owner-question (i - bound) (omega arith) (omega arith)) in
       ⊎-elim (λ w. constraint w .1 ∙ sym (same-owner noSupplier (length constraints) i more (omega (arith, constraint w .0, constraints-count))))
-      (⊎-elim (λ w. row w .2 ∙ sym (behind noSupplier front more bound i front-count (row w .0) ∙ owner-row (i - bound) (omega (arith, row w .0, row w .1))))
+      (⊎-elim (λ w. row w .2 ∙ sym (behind noSupplier front more bound i front-count (row w .0)
+      ∙ owner-row (i - bound) (omega (arith, row w .0, row w .1))))
       (λ w. question w .1 ∙ sym (owner-behind front more bound i front-count (omega (arith, question w .0)) (later (question w .0)))))
 
   -- what was written before entry i, and with it; and the supplier in force behind it

@@ -26,7 +26,8 @@ use Rattle.table.specs.Contents.{Contents, Covers, lastSupplier, settled
 use Rattle.table.specs.Reading.{reading}
 use Rattle.table.specs.Whole.{named}
 use Rattle.entries.proofs.OneEntry.{few, size, usedAt, used-by-both}
-use Rattle.table.proofs.Writing.{Sound, Each, each-get, written-append, written-parts, Open, of-accepted, whole-accepted, ConstraintAt, RowAt, QuestionAt}
+use Rattle.table.proofs.Writing.{Sound, Each, each-get, ConstraintAt, RowAt, QuestionAt}
+use Rattle.table.proofs.Writing.{written-append, written-parts, Open, of-accepted, whole-accepted}
 
 -- no entry has more bytes than the longest
 written-short : (es : List Entry) → length (written es) ≤ sizeLimit * length es

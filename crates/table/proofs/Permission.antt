@@ -207,8 +207,8 @@ unfit-there numbers below i x h = go (ltb i numbers) refl h
 
 -- a refusal of an entry that is whole: no room, an idle supplier, or a number
 pub by-refusal : {P : Type 0} (e : Entry) (good : Bool) (before : Tally) (why : Refusal) → permitted e good before ≡ refusing why →
-    ((noRoom (e .kind) before ≡ 0 → ⊥) → refusal (noRoom (e .kind) before) 0 ≡ why → P) → (good ≡ false → refusal idleSupplier 0 ≡ why → P) →
-    (misnaming e (offending e before) ≡ refusing why → P) → P
+    ((noRoom (e .kind) before ≡ 0 → ⊥) → refusal (noRoom (e .kind) before) 0 ≡ why → P) →
+    (good ≡ false → refusal idleSupplier 0 ≡ why → P) → (misnaming e (offending e before) ≡ refusing why → P) → P
 unfolding permitted
 by-refusal {P} e good before why q room idle names =
     ⊎-elim (λ h. room (h .0) (h .1)) (go good refl)

@@ -167,7 +167,8 @@ module _ (s : List ℕ) (n p : ℕ) (w : Speaks s n p) where
   from : w .start ≤ p
   from = points-from s (w .start) (tallyOf (w .before)) n p (w .points)
 
-  pub read-up-to : (more : List ℕ) → reading (take (w .start) s ++ (kind-byte ∷ more)) ≡ readOn (suc (length more)) (w .before) (w .start) (kind-byte ∷ more)
+  pub read-up-to : (more : List ℕ) →
+      reading (take (w .start) s ++ (kind-byte ∷ more)) ≡ readOn (suc (length more)) (w .before) (w .start) (kind-byte ∷ more)
   read-up-to more =
       let left : drop (w .start) s ≡ kind-byte ∷ behind = bytes-from s (w .start) (omega (arith, from, w .within)) in
       let at : length (encoded (w .before)) ≡ w .start = ap length (sym (w .bytes)) ∙ length-take-le (w .start) s (omega (arith, from, w .within)) in

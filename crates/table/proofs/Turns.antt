@@ -163,7 +163,7 @@ pub bytes-from : (s : List ℕ) (at : ℕ) → at < length s → drop at s ≡ g
 bytes-from s at l = rw (add-one at) (drop-cons s at 0 l)
 
 -- one turn, at a place where a byte stands
-module _ (s : List ℕ) (t : Table) (force at : ℕ) (h : At s t force at) (l : at < length s) where
+module _ {s : List ℕ} {t : Table} {force at : ℕ} (h : At s t force at) (l : at < length s) where
   abbrev pub here : Said Entry
   here = stepOf (getD s at 0) (drop (at + 1) s) force (t .tally)
 
@@ -193,8 +193,8 @@ module _ (s : List ℕ) (t : Table) (force at : ℕ) (h : At s t force at) (l : 
   pub inside-of : (e : Entry) → here ≡ answered e → at + sizeOf e ≤ length s
   inside-of e q = let w = step-took (getD s at 0) (drop (at + 1) s) force (t .tally) e q in omega (arith, w .0 .whole, size e, length-drop (at + 1) s)
 
-  pub taken : (e : Entry) (u : Table) (v : ℕ) → here ≡ answered e → u ≡ tableOf (withEntry (h .contents) e) → v ≡ forceBehind (e .kind) force (e .a) →
-      At s u v (at + sizeOf e)
+  pub taken : (e : Entry) (u : Table) (v : ℕ) → here ≡ answered e → u ≡ tableOf (withEntry (h .contents) e) →
+      v ≡ forceBehind (e .kind) force (e .a) → At s u v (at + sizeOf e)
   unfolding after
   taken e u v q r w =
       let on = rw (q, drop-drop (sizeOf e) at s) at turn in
@@ -233,5 +233,5 @@ unfolding readOn
 read-none zero c at = refl
 read-none (suc f) c at = refl
 
-pub done : (s : List ℕ) (t : Table) (force at : ℕ) (h : At s t force at) → length s ≤ at → reading s ≡ answered (h .contents)
-done s t force at h l = sym (h .left) ∙ rw (drop-of-length-le s l) (read-none (length s - at) (h .contents) at)
+pub done : {s : List ℕ} {t : Table} {force at : ℕ} (h : At s t force at) → length s ≤ at → reading s ≡ answered (h .contents)
+done {s} {t} {force} {at} h l = sym (h .left) ∙ rw (drop-of-length-le s l) (read-none (length s - at) (h .contents) at)

@@ -1,4 +1,5 @@
--- Each public call's promise leaves one answer, and one content for the output (belnap/specs/One.antt). Stated of the promises themselves, so that one that says less is refused here.
+-- Each public call's promise leaves one answer, and one content for the output (belnap/specs/One.antt).
+-- Stated of the promises themselves, so that one that says less is refused here.
 -- Assumes nothing.
 use Rattle.belnap.specs.One.{One, OneOutput}
 use Rattle.belnap.proofs.Unique.{by-definition}

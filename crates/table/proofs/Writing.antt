@@ -319,7 +319,8 @@ came-end : (c : Contents) → Open c false → Came c [] (answered c)
 came-end c o =
     (rw (settled-same c (calm c false (o .awaits) refl)) at (o .whole), sym (append-nil (encoded c)))
 
-came : (f : ℕ) (c : Contents) (at : ℕ) (s : List ℕ) → length s ≤ f → at ≡ length (encoded c) → Open c (beginsRow s) → Came c s (readOn f c at s)
+came : (f : ℕ) (c : Contents) (at : ℕ) (s : List ℕ) → length s ≤ f → at ≡ length (encoded c) → Open c (beginsRow s) →
+    Came c s (readOn f c at s)
 unfolding readOn after
 came zero c at [] h p o = came-end c o
 came zero c at (k ∷ s) h p o = absurd (omega arith)
@@ -329,8 +330,8 @@ came (suc f) c at (k ∷ s) h p o =
     (λ d e q v. came f d (at + sizeOf e) (drop (sizeOf e) (k ∷ s)) (omega (arith, size e, length-drop (sizeOf e) (k ∷ s))) q v)
   where
     go : (x : Said Entry) → stepOf k s (c .supplier) (tallyOf c) ≡ x →
-        ((d : Contents) (e : Entry) → at + sizeOf e ≡ length (encoded d) → Open d (beginsRow (drop (sizeOf e) (k ∷ s))) → Came d (drop (sizeOf e) (k ∷ s))
-        (readOn f d (at + sizeOf e) (drop (sizeOf e) (k ∷ s)))) →
+        ((d : Contents) (e : Entry) → at + sizeOf e ≡ length (encoded d) → Open d (beginsRow (drop (sizeOf e) (k ∷ s))) →
+        Came d (drop (sizeOf e) (k ∷ s)) (readOn f d (at + sizeOf e) (drop (sizeOf e) (k ∷ s)))) →
         Came c (k ∷ s) (after x c at (λ size d. readOn f d (at + size) (drop size (k ∷ s))))
     go (answered e) q on =
         let took = step-took k s (c .supplier) (tallyOf c) e q in
@@ -490,7 +491,8 @@ rows-read constraints (e ∷ es) pre (x ∷ ss) owned force s f at q h low fits 
     let next = rows-read constraints es (pre ++ (e ∷ [])) ss (owned ++ (x ∷ [])) x s (length (rest ++ s)) (at + length first + sizeOf e) (omega arith)
     (rw one (h .1)) (rw one (low .1)) (rw one (omega arith)) (omega arith) in
     let long : at + length first + sizeOf e + length rest ≡ at + length (written (change force x ++ (e ∷ marked x ss es))) =
-    omega (arith, ap length (written-append (change force x) (e ∷ marked x ss es)), length-append first (bytesOf e ++ rest), length-append (bytesOf e) rest) in
+    let all = ap length (written-append (change force x) (e ∷ marked x ss es)) in
+    omega (arith, all, length-append first (bytesOf e ++ rest), length-append (bytesOf e) rest) in
     let enough : length (first ++ (bytesOf e ++ (rest ++ s))) ≤ f = rw bytes at l in
     rw bytes
     (change-read (ruling constraints pre owned force) x (bytesOf e ++ (rest ++ s)) f at refl (low .0) (begins-own e (rest ++ s) ∙ h .0 .in-part) enough
@@ -554,7 +556,8 @@ read-open c s o = ⊎-elim calmly waiting (o .awaits)
         let all : entries c ≡ entries d ++ last =
         rw (h .1, append-nil (ruled c), append-nil (ruled d), none) (sym (append-assoc (c .constraints) rows last)) in
         let bytes : encoded c ≡ encoded d ++ written last = ap written all ∙ written-append (entries d) last in
-        let place : length (encoded d) + length (written last) ≡ length (encoded c) = omega (arith, ap length bytes, length-append (encoded d) (written last)) in
+        let place : length (encoded d) + length (written last) ≡ length (encoded c) =
+        omega (arith, ap length bytes, length-append (encoded d) (written last)) in
         ap (λ (l : List ℕ). reading (l ++ s)) bytes
         ∙ rw (append-assoc (encoded d) (written last) s)
         (read-past d (written last ++ s) (o .whole)

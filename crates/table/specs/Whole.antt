@@ -1,4 +1,5 @@
--- A table that keeps the rules, said of its contents (01, "The table, byte by byte"; 02, L5 and L6): each that reading accepts is one, and reading accepts each.
+-- A table that keeps the rules, said of its contents (01, "The table, byte by byte"; 02, L5 and L6): each that reading accepts is one,
+-- and reading accepts each.
 use Prim.Native.Nat.{ℕ, suc, _≤_, _<_}
 use mathlib.Core.Path.{_≡_}
 use mathlib.Core.Bool.{Bool, true, _&&_}

@@ -213,7 +213,8 @@ module _ {text bytes : List ℕ} {count : ℕ} {counts : Tally} {force line at :
             let bytes : written es ≡ encoded c ++ (bytesOf e ++ written fs) = written-append (entries c) (e ∷ fs) in
             let inside : why .place < sizeOf e = omega (arith, refused-inside e (placed e (c .supplier) follows) (tallyOf c) why may, size e) in
             let place : lineAt es (length (encoded c) + why .place) ≡ line = line-of-place (entries c) e fs (why .place) inside ∙ sym (so .numbered) in
-            rw (all) (ap (byLine es) (ap reading bytes ∙ out-reading c e (good .plain) follows stands-here (written fs) why (row-follows (suc line) (drop next text) fs r) may)
+            let row = row-follows (suc line) (drop next text) fs r in
+            rw (all) (ap (byLine es) (ap reading bytes ∙ out-reading c e (good .plain) follows stands-here (written fs) why row may)
             ∙ ap (λ (l : ℕ). refusing (refusal (why .number) l)) place)
         go (refusing w) r =
             let all : spelled text ≡ refusing w = behind ∙ ap (before (entries (so .table) ++ (e ∷ []))) r in

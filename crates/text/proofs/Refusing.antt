@@ -170,7 +170,8 @@ unfolding written marked lastOf
 bad-entry text why own =
     let es = own .entries in
     let plain = text-written text es (own .spells) .1 in
-    let b : FirstBad none es (refusal (why .number) (own .at)) = rw (own .refuses) at (ends es none (whole-open none (beginsRow (written es)) none-whole) plain) in
+    let begin = whole-open none (beginsRow (written es)) none-whole in
+    let b : FirstBad none es (refusal (why .number) (own .at)) = rw (own .refuses) at (ends es none begin plain) in
     let number : b .here .number ≡ why .number = sym (ap (λ (r : Refusal). r .number) (b .is)) in
     let front : written (b .front) ≡ encoded (b .before) = ap written (sym (b .taken)) in
     let at : own .at ≡ length (written (b .front)) + b .here .place = ap (λ (r : Refusal). r .place) (b .is) ∙ ap (λ

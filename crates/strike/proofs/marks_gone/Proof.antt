@@ -38,7 +38,8 @@ prior-is c =
     (λ w. let none : r ≡ 0 = w .0 .taken in w .1 ∙ rw none)
     (λ w. let some : 0 < r = omega (arith, w .0 .left) in
     let back : r - 1 + 1 ≡ r = omega arith in
-    w .1 ∙ owner start (r - 1) (omega (arith, start .pre .0)) ∙ sym (rw back at (last-more noSupplier ss (r - 1) (omega (arith, count start, start .pre .0)))))
+    let last = rw back at (last-more noSupplier ss (r - 1) (omega (arith, count start, start .pre .0))) in
+    w .1 ∙ owner start (r - 1) (omega (arith, start .pre .0)) ∙ sym last)
     (c .if1 .came)
 
 -- the 60s before the row, and those before the one behind it

@@ -45,11 +45,11 @@ in-bytes : (c : tie.After-known-told Inv-loop μ-loop) → at-head c .loop .at <
 in-bytes c = c .before .before .before .before .before .loop-test .taken
 
 taken-here : (c : tie.After-known-told Inv-loop μ-loop) →
-    here (bytes c) (at-head c .loop .t) (at-head c .loop .force) (at-head c .loop .at) (at-head c .loop .inv) (in-bytes c) ≡ answered (entry c)
+    here (at-head c .loop .inv) (in-bytes c) ≡ answered (entry c)
 taken-here c = took _ (entry c) (sym (c .before .before .before .step-at .ensures) ∙ c .before .step .given .1)
 
 room : (c : tie.After-known-told Inv-loop μ-loop) (kind : Kind) → entry c .kind ≡ kind → Room kind (at-head c .loop .t .tally)
-room c kind = room-for (bytes c) (at-head c .loop .t) (at-head c .loop .force) (at-head c .loop .at) (at-head c .loop .inv) (in-bytes c) (entry c) kind (taken-here c)
+room c kind = room-for (at-head c .loop .inv) (in-bytes c) (entry c) kind (taken-here c)
 
 row-fits : (c : tie.After-enum-told Inv-loop μ-loop) → at-head (c .before .before) .loop .t .tally .rows < rowLimit
 row-fits c = room (c .before .before) _ (c .enum-told .given .1) .0
@@ -68,7 +68,7 @@ inside : (c : tie.After-size-of Inv-loop μ-loop) → at-head (told c) .loop .at
 inside c =
     let e = told c in
     let head = at-head e in
-    let ends = inside-of (bytes e) (head .loop .t) (head .loop .force) (head .loop .at) (head .loop .inv) (in-bytes e) (entry e) (taken-here e) in
+    let ends = inside-of (head .loop .inv) (in-bytes e) (entry e) (taken-here e) in
     omega (arith, c .size-of .ensures .0, ends)
 
 mul-e : tie.Need-mul-e Inv-loop μ-loop
@@ -96,7 +96,7 @@ one-more-requires : tie.Need-one-more-requires Inv-loop μ-loop
 one-more-requires c κs =
     let e = c .before .before .before in
     let head = at-head e in
-    room-here (bytes e) (head .loop .t) (head .loop .force) (head .loop .at) (head .loop .inv) (in-bytes e) (entry e) (taken-here e)
+    room-here (head .loop .inv) (in-bytes e) (entry e) (taken-here e)
 
 add-at : tie.Need-add-at Inv-loop μ-loop
 add-at c = record { fits = omega (arith, inside c) }
@@ -115,8 +115,8 @@ loop-again c =
     let next : (kind : Kind) → entry e .kind ≡ kind → came .t ≡ stored kind (now .force) (entry e) (now .t) →
     came .force ≡ forceBehind kind (now .force) (entry e .a) →
     At (bytes e) (counting (came .t) (more .result) (larger .result)) (came .force) (now .at + sizeOf (entry e)) =
-    λ kind p q r. taken (bytes e) (now .t) (now .force) (now .at) (now .inv) (in-bytes e) (entry e) _ (came .force) (taken-here e)
-    (grown (bytes e) (now .t) (now .force) (now .at) (now .inv) (in-bytes e) kind (entry e) (came .t) (larger .result) (more .result)
+    λ kind p q r. taken (now .inv) (in-bytes e) (entry e) _ (came .force) (taken-here e)
+    (grown (now .inv) (in-bytes e) kind (entry e) (came .t) (larger .result) (more .result)
     (taken-here e) p q (larger .ensures ∙ ap (max (came .t .predicates)) (uses .ensures .0)) (more .ensures))
     (r ∙ ap (λ (k : Kind). forceBehind k (now .force) (entry e .a)) (sym p)) in
     rw (c .size-of .ensures .0)
@@ -143,20 +143,20 @@ in-refused : (c : tie.After-struct-known Inv-loop μ-loop) → refused-head c .l
 in-refused c = c .before .before .before .before .before .before .loop-test .taken
 
 refused-here : (c : tie.After-struct-known Inv-loop μ-loop) →
-    here (refused-bytes c) (refused-head c .loop .t) (refused-head c .loop .force) (refused-head c .loop .at) (refused-head c .loop .inv) (in-refused c) ≡ refusing (why c)
+    here (refused-head c .loop .inv) (in-refused c) ≡ refusing (why c)
 refused-here c = turned-away _ (why c) (sym (c .before .before .before .before .step-at .ensures) ∙ c .before .before .step2 .given .1)
 
 add-place : tie.Need-add-place Inv-loop μ-loop
 add-place c =
     let head = refused-head c in
-    record { fits = omega (arith, bad-inside (refused-bytes c) (head .loop .t) (head .loop .force) (head .loop .at) (head .loop .inv) (in-refused c) (why c) (refused-here c)) }
+    record { fits = omega (arith, bad-inside (head .loop .inv) (in-refused c) (why c) (refused-here c)) }
 
 returns : tie.Need-returns Inv-loop μ-loop
 returns c =
     let at = c .before in
     let head = refused-head at in
     c .refused .ensures
-    ∙ ap shown (sym (bad (refused-bytes at) (head .loop .t) (head .loop .force) (head .loop .at) (head .loop .inv) (in-refused at) (why at) (refused-here at)))
+    ∙ ap shown (sym (bad (head .loop .inv) (in-refused at) (why at) (refused-here at)))
 
 returns-2 : tie.Need-returns-2 Inv-loop μ-loop
 unfolding shown
@@ -164,7 +164,7 @@ returns-2 c =
     let left = c .before in
     let head = left .before in
     rw (
-      done (head .before .before .before .args .s .now) (head .loop .t) (head .loop .force) (head .loop .at) (head .loop .inv) (left .loop-test .left),
+      done (head .loop .inv) (left .loop-test .left),
       head .loop .inv .stands,
       c .of .ensures,
     )

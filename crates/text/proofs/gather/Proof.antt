@@ -83,7 +83,9 @@ well c =
     ∙ ap (λ (n : ℕ). placed (entry c) (head (found c) .loop .force) (rowSpelled (drop n (text-at (found c))))) (next-is (found c))
 
 judged-as : (c : tie.After-enter Inv-loop μ-loop) → c .enter .result ≡ shownEntered (head (found c) .loop .tally) (says c)
-judged-as c = let now = head (found c) .loop in c .enter .ensures ∙ ap (λ (g : Bool). shownEntered (now .tally) (permitted (entry c) g (now .tally))) (well c)
+judged-as c =
+    let now = head (found c) .loop in
+    c .enter .ensures ∙ ap (λ (g : Bool). shownEntered (now .tally) (permitted (entry c) g (now .tally))) (well c)
 
 -- and that may stand there
 abbrev judged : tie.After-known-told2 Inv-loop μ-loop → tie.After-enter Inv-loop μ-loop

@@ -12,7 +12,8 @@ use Rattle.text.proofs.text_size.Statement.{statement}
 use Rattle.text.proofs.text_size.Tie as tie
 
 abbrev Inv-loop : tie.InvT-loop
-Inv-loop t bound ruled count size₀ force₀ i₀ size force i = (i ≤ count) × (size ≡ length (textTo t i)) × (force ≡ inForce t i) × (size ≤ 60 * i)
+Inv-loop t bound ruled count size₀ force₀ i₀ size force i =
+    (i ≤ count) × (size ≡ length (textTo t i)) × (force ≡ inForce t i) × (size ≤ 60 * i)
 
 abbrev μ-loop : tie.MeasureT-loop
 μ-loop t bound ruled count size₀ force₀ i₀ size force i = count - i

@@ -23,16 +23,16 @@ told-true : (b : Bool) → not b ≡ false → b ≡ true
 told-true true h = refl
 told-true false h = never h
 
--- what is said where there is room, and of a supplier that is placed well
-abbrev numbers-said : Entry → Tally → Said Entry
-numbers-said e before = misnaming e (offending e before)
+-- what is said where there is room
+abbrev then-said : Entry → Bool → Tally → Said Entry
+then-said e good before = unless (ifIdle good) (misnaming e (offending e before))
 
 returns : tie.Need-returns
 unfolding permitted shownStep
 returns c =
     let start = c .before .before .before .args in
     let full = c .before .before .no-room .ensures in
-    rw (unless-some _ (unless (ifIdle (start .good)) (numbers-said (start .e) (start .before))) (λ z. c .before .if1 .taken (full ∙ z)), ← full) (c .bad .ensures)
+    rw (unless-some _ (then-said (start .e) (start .good) (start .before)) (λ z. c .before .if1 .taken (full ∙ z)), ← full) (c .bad .ensures)
 
 returns-2 : tie.Need-returns-2
 unfolding permitted shownStep
@@ -40,7 +40,7 @@ returns-2 c =
     let here = c .before .before in
     let start = here .before .before .args in
     let full = sym (here .before .no-room .ensures) ∙ here .if1 .left in
-    rw (unless-none _ (unless (ifIdle (start .good)) (numbers-said (start .e) (start .before))) full, told-false (start .good) (c .before .if2 .taken)) (c .bad2 .ensures)
+    rw (unless-none _ (then-said (start .e) (start .good) (start .before)) full, told-false (start .good) (c .before .if2 .taken)) (c .bad2 .ensures)
 
 returns-3 : tie.Need-returns-3
 unfolding permitted shownStep
@@ -52,7 +52,7 @@ returns-3 c =
     let place = found .offending-in .ensures in
     let number = c .before .misnamed-of .ensures ∙ ap (λ (form : Form). misnamed (form .names)) (c .before .before .form-of .ensures) in
     rw (
-      unless-none _ (unless (ifIdle (start .good)) (numbers-said (start .e) (start .before))) full,
+      unless-none _ (then-said (start .e) (start .good) (start .before)) full,
       told-true (start .good) (found .before .if2 .left),
       misnaming-some (start .e) _ (λ z. c .before .before .before .if3 .taken (place ∙ z)),
     ) (c .bad3 .ensures ∙ ap Bad (ap₂ refusal number place))

@@ -12,8 +12,9 @@ returns c = rw (drop-of-length-le (c .before .before .args .s .now) (c .if1 .tak
 
 returns-2 : tie.Need-returns-2
 returns-2 c =
-    let start = c .before .before .before in
-    rw (bytes-from (start .before .before .args .s .now) (start .before .before .args .at) (start .if1 .left)) (c .of-row .ensures ∙ ap ofRow (c .before .kind-of .ensures))
+    let inside = c .before .before .before in
+    let start = inside .before .before .args in
+    rw (bytes-from (start .s .now) (start .at) (inside .if1 .left)) (c .of-row .ensures ∙ ap ofRow (c .before .kind-of .ensures))
 
 pub row-at-spec : {M : Type 1} → statement M
 row-at-spec = tie.close (tie.spec returns (λ c. search needs) (λ c κs. search needs) (λ c κs. search needs) returns-2)

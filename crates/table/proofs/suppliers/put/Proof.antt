@@ -65,7 +65,8 @@ sized-at c = other-at c .before .before
 both-long : (c : tie.After-put2) → length (bytes-at (sized-at c)) ≡ c .put2 .result + sizeOf (start-at (sized-at c) .args .e)
 both-long c =
     let a = start-at (sized-at c) .args in
-    omega (arith, ap length (other-bytes (other-at c)), length-append (bytesOf (supplying (a .s))) (bytesOf (a .e)), c .put2 .ensures .0, ap length (mark-bytes c))
+    let both = ap length (other-bytes (other-at c)) ∙ length-append (bytesOf (supplying (a .s))) (bytesOf (a .e)) in
+    omega (arith, both, c .put2 .ensures .0, ap length (mark-bytes c))
 
 all-fit : (c : tie.After-put2) → length (bytes-at (sized-at c)) ≤ length (start-at (sized-at c) .args .out .now)
 all-fit c = omega (arith, other-at c .before .if1 .left, sized (sized-at c))
