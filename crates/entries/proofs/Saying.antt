@@ -6,7 +6,7 @@ use Prim.Native.Nat.{ℕ, zero, suc}
 use native.Mathlib.Omega.{arith}
 use Rattle.belnap.proofs.Finite.{never}
 use Rattle.entries.specs.declared.refusals.Refusal.{Refusal}
-use Rattle.entries.specs.Said.{Said, answered, refusing, refusal, unless}
+use Rattle.entries.specs.Said.{Said, answered, refusing, refusal, unless, orElse}
 
 -- an answer is no refusal
 pub not-both : {A P : Type 0} {v : A} {why : Refusal} → answered v ≡ refusing why → P
@@ -29,3 +29,8 @@ pub unless-refusing : {A : Type 0} (n : ℕ) (x : Said A) (why : Refusal) → un
     ((n ≡ 0 → ⊥) × (refusal n 0 ≡ why)) ⊎ (x ≡ refusing why)
 unless-refusing zero x why q = inr q
 unless-refusing (suc n) x why q = inl (λ z. omega arith, cc)
+
+-- two such numbers, one after the other
+pub unless-twice : {A : Type 0} (n m : ℕ) (x : Said A) → unless n (unless m x) ≡ unless (orElse n m) x
+unless-twice zero m x = refl
+unless-twice (suc n) m x = refl

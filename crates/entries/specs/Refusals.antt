@@ -1,6 +1,6 @@
 -- The refusals by their numbers (01, "When we say no"; 02, L2, L5 and L6).
 use Prim.Native.Nat.{ℕ}
-use mathlib.Core.Bool.{Bool, false, cond}
+use mathlib.Core.Bool.{Bool, cond}
 use mathlib.Core.List.{List, [], _∷_}
 use lib.Dec.{eqb}
 use Rattle.entries.specs.Lists.{some}

@@ -24,3 +24,8 @@ andThen (refusing why) f = refusing why
 abbrev pub unless : {A : Type 0} → ℕ → Said A → Said A
 unless zero rest = rest
 unless (suc n) rest = refusing (refusal (suc n) 0)
+
+-- the first of two such numbers that is a refusal's
+abbrev pub orElse : ℕ → ℕ → ℕ
+orElse zero m = m
+orElse (suc n) m = suc n

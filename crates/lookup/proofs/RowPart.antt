@@ -21,36 +21,31 @@ use Rattle.entries.specs.Said.{Said, answered, refusing, refusal, unless}
 use Rattle.entries.specs.Entries.{blank, sizeOf, constraintSize, bytesOf}
 use Rattle.entries.proofs.Saying.{not-both}
 use Rattle.table.specs.Steps.{rowLimit}
-use Rattle.table.specs.Suppliers.{noSupplier, change, marked, lastOf}
+use Rattle.table.specs.Suppliers.{noSupplier, change, marked}
 use Rattle.table.specs.Contents.{Contents, written}
 use Rattle.table.specs.Reading.{reading, tableOf}
 use Rattle.lookup.specs.Lookup.{endingWith, bytesBefore, partOf, placeOf, shownPlace, partAt}
 use Rattle.table.proofs.Padding.{padded-at, padded-front}
-use Rattle.table.proofs.Marking.{marked-append, marked-more}
+use Rattle.table.proofs.Marking.{marked-append, forceAt, markedTo, marked-more}
 use Rattle.table.proofs.Writing.{Whole, written-append, written-more, written-parts, of-accepted}
 use Rattle.table.proofs.Laws.{constraint-bytes}
 
 -- the rows before a row, with their 60s and its own; and with the row
-module _ (ss : List ℕ) (es : List Entry) where
-  abbrev pub rowsTo : ℕ → List Entry
-  rowsTo i = marked noSupplier (take i ss) (take i es)
-
-  abbrev pub inForce : ℕ → ℕ
-  inForce i = lastOf noSupplier (take i ss)
-
-  pub start-more : (i : ℕ) → length ss ≡ length es → i < length es →
-      length (written (rowsTo (i + 1))) ≡ bytesBefore ss es i + sizeOf (getD es i blank)
-  start-more i many h =
-      let first = rowsTo i in
-      let mark = change (inForce i) (getD ss i noSupplier) in
+module _ (ss : List ℕ) (es : List Entry) (many : length ss ≡ length es) where
+  pub start-more : (i : ℕ) → i < length es → length (written (markedTo ss es many (i + 1))) ≡ bytesBefore ss es i + sizeOf (getD es i blank)
+  start-more i h =
+      let first = markedTo ss es many i in
+      let mark = change (forceAt ss i) (getD ss i noSupplier) in
       let e = getD es i blank in
-      ap (λ (l : List Entry). length (written l)) (marked-more noSupplier ss es i many h ∙ sym (append-assoc first mark (e ∷ [])))
+      ap (λ (l : List Entry). length (written l)) (marked-more ss es many i _ _ e h refl refl refl ∙ sym (append-assoc first mark (e ∷ [])))
       ∙ ap length (written-more (first ++ mark) e) ∙ length-append (written (first ++ mark)) (bytesOf e)
 
-  pub bytes-before : (i : ℕ) → bytesBefore ss es i ≡ length (written (rowsTo i)) + length (written (change (inForce i) (getD ss i noSupplier)))
+  pub bytes-before : (i : ℕ) →
+      bytesBefore ss es i ≡ length (written (markedTo ss es many i)) + length (written (change (forceAt ss i) (getD ss i noSupplier)))
   bytes-before i =
-      let mark = change (inForce i) (getD ss i noSupplier) in
-      ap length (written-append (rowsTo i) mark) ∙ length-append (written (rowsTo i)) (written mark)
+      let first = markedTo ss es many i in
+      let mark = change (forceAt ss i) (getD ss i noSupplier) in
+      ap length (written-append first mark) ∙ length-append (written first) (written mark)
 
 -- so a row starts behind the constraints, the rows before it and a 60 of its own
 pub start-is : (c : Contents) (r : ℕ) → length (c .suppliers) ≡ length (c .rows) → r < length (c .rows) →
@@ -58,9 +53,9 @@ pub start-is : (c : Contents) (r : ℕ) → length (c .suppliers) ≡ length (c 
 unfolding written
 start-is c r many h =
     let constraints = written (c .constraints) in
-    let rows = rowsTo (c .suppliers) (c .rows) (r + 1) in
+    let rows = markedTo (c .suppliers) (c .rows) many (r + 1) in
     rw (written-parts (endingWith r c) refl, ← add-one r, append-nil (written rows))
-    (omega (arith, length-append constraints (written rows), start-more (c .suppliers) (c .rows) r many h))
+    (omega (arith, length-append constraints (written rows), start-more (c .suppliers) (c .rows) many r h))
 
 -- what is said of a row that is there, and of one that is not
 pub place-there : (c : Contents) (r : ℕ) → r < length (c .rows) → placeOf (answered c) r ≡ answered (partOf r c)
@@ -100,11 +95,13 @@ module _ (s : List ℕ) (c : Contents) (r : ℕ) (q : reading s ≡ answered c) 
   abbrev pub own : List ℕ
   own = bytesOf (getD (c .rows) r blank)
 
-  whole : Whole c
+  pub whole : Whole c
   whole = of-accepted s c q .0
 
   abbrev before : List Entry
-  before = rowsTo (c .suppliers) (c .rows) r ++ change (inForce (c .suppliers) (c .rows) r) (getD (c .suppliers) r noSupplier)
+  before =
+      markedTo (c .suppliers) (c .rows) (whole .suppliers-fit) r
+      ++ change (forceAt (c .suppliers) r) (getD (c .suppliers) r noSupplier)
 
   abbrev pub front : List ℕ
   front = written (c .constraints) ++ written before
@@ -124,10 +121,11 @@ module _ (s : List ℕ) (c : Contents) (r : ℕ) (q : reading s ≡ answered c) 
       let es = split-at (c .rows) r blank h in
       let both : length (take r (c .suppliers)) ≡ length (take r (c .rows)) =
       length-take-le r (c .suppliers) (omega (arith, many)) ∙ sym (length-take-le r (c .rows) (omega arith)) in
-      let mark = change (inForce (c .suppliers) (c .rows) r) (getD (c .suppliers) r noSupplier) in
+      let first = markedTo (c .suppliers) (c .rows) many r in
+      let mark = change (forceAt (c .suppliers) r) (getD (c .suppliers) r noSupplier) in
       ap₂ (marked noSupplier) ss es
       ∙ marked-append noSupplier (take r (c .suppliers)) _ (take r (c .rows)) _ both
-      ∙ sym (append-assoc (rowsTo (c .suppliers) (c .rows) r) mark (getD (c .rows) r blank ∷ behind))
+      ∙ sym (append-assoc first mark (getD (c .rows) r blank ∷ behind))
 
   pub around : front ++ (own ++ back) ≡ s
   unfolding written

@@ -62,19 +62,20 @@ counts = refl
 -- "15, a 60 that repeats the supplier in force or is not followed by a row's kind byte, at the 60, after 2; a 60 after a question is 5"
 pub idle :
     Refuses (0x60 ∷ 0x05 ∷ constraints 1 []) idleSupplier 0 × Refuses (0x60 ∷ 0x05 ∷ 0x60 ∷ 0x06 ∷ 0x00 ∷ []) idleSupplier 0
-    × Refuses (0x60 ∷ 0x05 ∷ []) idleSupplier 0 × Refuses (0x60 ∷ 0x05 ∷ 0x40 ∷ []) idleSupplier 0 × Refuses (0x60 ∷ []) cutShort 0
+    × Refuses (0x60 ∷ 0x05 ∷ []) idleSupplier 0 × Refuses (0x60 ∷ 0x05 ∷ 0x40 ∷ []) idleSupplier 0 × Refuses (0x60 ∷ 0x05 ∷ 0x12 ∷ []) idleSupplier 0
+    × Refuses (0x60 ∷ []) cutShort 0 × Refuses (0x00 ∷ 0x40 ∷ 0x00 ∷ 0x00 ∷ 0x60 ∷ []) outOfOrder 4
     × Refuses (0x60 ∷ 0x05 ∷ 0x20 ∷ []) cutShort 2 × Refuses (0x60 ∷ 0x00 ∷ 0x00 ∷ []) idleSupplier 0
     × Refuses (0x00 ∷ 0x60 ∷ 0x05 ∷ 0x00 ∷ 0x60 ∷ 0x05 ∷ 0x00 ∷ []) idleSupplier 4
     × Refuses (0x60 ∷ 0x05 ∷ 0x00 ∷ 0x00 ∷ 0x60 ∷ 0x05 ∷ 0x00 ∷ []) idleSupplier 4
     × Refuses (0x00 ∷ 0x40 ∷ 0x00 ∷ 0x00 ∷ 0x60 ∷ 0x05 ∷ []) outOfOrder 4 × Refuses (0x60 ∷ 0x05 ∷ 0x20 ∷ 0x00 ∷ []) notToBeNamed 3
 unfolding reading readOn after stepOf judged placed permitted offending noRoom decoded bodyOf kindOf bytesOf
-idle = (refl, refl, refl, refl, refl, refl, refl, refl, refl, refl, refl)
+idle = (refl, refl, refl, refl, refl, refl, refl, refl, refl, refl, refl, refl, refl)
 
 -- a strike, and what it writes over the front of seven nines
 abbrev Strikes : List ℕ → ℕ → List ℕ → Type 0
 Strikes s r left = strikeOutput s r (9 ∷ 9 ∷ 9 ∷ 9 ∷ 9 ∷ 9 ∷ 9 ∷ []) ≡ left
 
--- "60s may vanish or appear"
+-- a 60 goes where the supplier no longer changes, and comes to stand before another row where it does
 pub strikes :
     Strikes (0x00 ∷ 0x60 ∷ 0x01 ∷ 0x00 ∷ 0x60 ∷ 0x00 ∷ 0x00 ∷ []) 1 (0x00 ∷ 0x00 ∷ 9 ∷ 9 ∷ 9 ∷ 9 ∷ 9 ∷ [])
     × Strikes (0x00 ∷ 0x60 ∷ 0x01 ∷ 0x00 ∷ 0x00 ∷ []) 1 (0x00 ∷ 0x60 ∷ 0x01 ∷ 0x00 ∷ 9 ∷ 9 ∷ 9 ∷ [])

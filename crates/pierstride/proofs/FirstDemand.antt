@@ -11,7 +11,7 @@ use lib.Dec.{leb, ltb}
 use borrow.Author.Tests.{lt-leb, le-ltb}
 use Rattle.belnap.proofs.Finite.{never}
 use Rattle.entries.specs.declared.refusals.Refusal.{Refusal}
-use Rattle.entries.specs.Refusals.{notThere, badMask, ifMissing, atNumber, isAmong}
+use Rattle.entries.specs.Refusals.{notThere, badMask, outputTooShort, ifMissing, atNumber, isAmong}
 use Rattle.entries.specs.Said.{Said, answered, refusing, andThen, unless}
 use Rattle.entries.specs.Entries.{numberLimit, onto}
 use Rattle.entries.specs.Output.{ifShort, sent, outputOf}
@@ -150,6 +150,12 @@ strike-tells s r out =
     (saysStrike s r out)
     (on-table ofStriking s _ (λ c. struck-due s (missing r c) (inUse r c) (tooShort (length out) r c) _))
 
+-- 11, of a call that has bytes to write
+too-short : (own s bytes : List ℕ) (short : Bool) → isAmong own outputTooShort ≡ true →
+    DueOf (Due own s) (unless (ifShort short) (answered (length bytes)))
+too-short own s bytes true e = inr (e, refl)
+too-short own s bytes false e = tt
+
 -- 8, then 11, for the list of a row's suppliers (02, L6)
 pub suppliers-tells : (s : List ℕ) (r : ℕ) (out : List ℕ) →
     Tells (Due ofListing s) (sent (saysSuppliers s r) (length out)) (suppliersAnswer s r out .refusal) (suppliersAnswer s r out .place)
@@ -158,13 +164,9 @@ suppliers-tells s r out =
     tells (Due ofListing s) writtenOf (λ a. a .refusal) (λ a. a .place) (never-zero ofListing s refl) (λ v. (refl, refl)) (λ why. (refl, refl))
     (sent (saysSuppliers s r) (length out)) (go (reading s) refl)
   where
-    short : (list : List ℕ) (short : Bool) → DueOf (Due ofListing s) (unless (ifShort short) (answered (length list)))
-    short list true = inr (refl, refl)
-    short list false = tt
-
     room : (list : List ℕ) (absent : Bool) → DueOf (Due ofListing s) (sent (unless (ifMissing absent) (answered list)) (length out))
     room list true = inr (refl, refl)
-    room list false = short list (ltb (length out) (length list))
+    room list false = too-short ofListing s list (ltb (length out) (length list)) refl
 
     go : (x : Said Contents) → reading s ≡ x → DueOf (Due ofListing s) (sent (listOf x r) (length out))
     go (answered c) e = room (suppliersOf (c .rows) (c .suppliers) r) (leb (length (c .rows)) r)
@@ -178,12 +180,8 @@ to-text-tells s out =
     tells (Due ofWriting s) writtenOf (λ a. a .refusal) (λ a. a .place) (never-zero ofWriting s refl) (λ v. (refl, refl)) (λ why. (refl, refl))
     (sent (toText s) (length out)) (go (reading s) refl)
   where
-    room : (text : List ℕ) (short : Bool) → DueOf (Due ofWriting s) (unless (ifShort short) (answered (length text)))
-    room text true = inr (refl, refl)
-    room text false = tt
-
     go : (x : Said Contents) → reading s ≡ x → DueOf (Due ofWriting s) (sent (andThen x (λ c. answered (textOf (entries c)))) (length out))
-    go (answered c) e = room (textOf (entries c)) (ltb (length out) (length (textOf (entries c))))
+    go (answered c) e = too-short ofWriting s (textOf (entries c)) (ltb (length out) (length (textOf (entries c)))) refl
     go (refusing why) e = inl (refused-at s (why .number) (why .place) e)
 
 -- and reading one with 12 or 13 at the first bad line, then with 01's own at the line of the first bad entry, then with 11
@@ -227,7 +225,8 @@ pub number-pointed-at : (own s : List ℕ) (n p : ℕ) → isAmong own n ≡ fal
     (w : Speaks s n p) × Misnames s (w .start) (tallyOf (w .before)) n p
 number-pointed-at own s n p o h = ⊎-elim (λ w. (w, at-number s n p w h)) (λ d. never (sym (d .0) ∙ o))
 
--- and a number below its limit there mends it: the table is accepted, or refused only beyond
+-- and a number below its limit there mends it: the table is accepted, or refused only beyond. The number there is a byte, so it is no supplier's, which every
+-- byte may be.
 pub mending-helps : (s : List ℕ) (n p : ℕ) (w : Speaks s n p) (m : Misnames s (w .start) (tallyOf (w .before)) n p) (x : ℕ) →
     getD s p 0 < numberLimit → x < limit (formOf (m .kind) .names) (tallyOf (w .before)) →
     (readAnswer (set s p x) .refusal ≡ 0) ⊎ (p < readAnswer (set s p x) .place)

@@ -73,7 +73,7 @@ pub decide-independent : (s : List ℕ) (c : Contents) → reading s ≡ answere
 decide-independent s c is r m o agree p q =
     decided s c is r m p .1 ∙ ap (λ (v : Decision). decidedOf (answered v)) (independent (c .rows) m o r agree) ∙ sym (decided s c is r o q .1)
 
--- "decisions and sets are unchanged" (02, L5): they come from a table's rows alone, whatever constraints and questions stand beside them
+-- "decisions and sets are unchanged" (02, L5): they come from a table's rows alone, whatever constraints, suppliers (02, L6) and questions stand beside them
 module _ (s t : List ℕ) (c d : Contents) (is : reading s ≡ answered c) (other : reading t ≡ answered d) (same : c .rows ≡ d .rows) where
   pub decide-by-rows : (r request : ℕ) → decideAnswer s r request ≡ decideAnswer t r request
   unfolding saysDecide
@@ -83,7 +83,7 @@ module _ (s t : List ℕ) (c d : Contents) (is : reading s ≡ answered c) (othe
   unfolding saysPossible
   possible-by-rows r known request = rw (is, other, same)
 
--- so do verdicts from a table's constraints, rows and questions: nothing but the list looks at suppliers (02, L6)
+-- so do verdicts from a table's constraints, rows and questions, whatever suppliers stand beside them (02, L6)
 pub verdict-by-entries : (s t : List ℕ) (c d : Contents) → reading s ≡ answered c → reading t ≡ answered d → c .constraints ≡ d .constraints →
     c .rows ≡ d .rows → c .questions ≡ d .questions → (q budget : ℕ) → verdictAnswer s q budget ≡ verdictAnswer t q budget
 unfolding saysVerdict

@@ -1,16 +1,17 @@
 -- 02's L6, of the services' answers: what `pier_suppliers` writes are the suppliers of the rows that a row reaches, rising; and a table of rows and suppliers
 -- has one encoding.
 -- Assumes nothing.
-use mathlib.Core.Path.{_≡_, refl, sym, ap, ap₂, _∙_}
+use mathlib.Core.Path.{_≡_, refl, sym, ap, _∙_}
 use mathlib.Core.Bool.{true}
 use mathlib.Core.List.{List}
-use Prim.Native.Nat.{ℕ, _<_}
+use Prim.Native.Nat.{ℕ, _≤_, _<_}
 use native.Mathlib.Omega.{arith}
 use lib.ListN.{length, getD, take, List·getD-eq-default}
 use lib.Dec.{leb}
-use Rattle.entries.specs.declared.Entry.{Entry}
-use Rattle.entries.specs.Refusals.{ifMissing, isAmong}
-use Rattle.entries.specs.Said.{answered}
+use borrow.Author.Tests.{lt-ltb, le-leb, lt-leb}
+use Rattle.entries.specs.Refusals.{notThere, outputTooShort, ifMissing, isAmong}
+use Rattle.entries.specs.Said.{answered, refusing, refusal}
+use Rattle.entries.specs.Output.{sent}
 use Rattle.entries.specs.Entries.{numberLimit}
 use Rattle.entries.proofs.Numbers.{by-order}
 use Rattle.entries.proofs.Saying.{unless-answered}
@@ -23,12 +24,31 @@ use Rattle.decide.specs.Reach.{reachesRow}
 use Rattle.decide.proofs.Reaching.{whole-lower}
 use Rattle.suppliers.specs.Suppliers.{supplierAt, suppliersOf, listOf}
 use Rattle.suppliers.proofs.Laws.{Reached, listed-reached, reached-listed, suppliers-rise}
-use Rattle.pierstride.specs.Services.{saysSuppliers, suppliersAnswer, suppliersOutput}
+use Rattle.pierstride.specs.Services.{writtenOf, saysSuppliers, suppliersAnswer, suppliersOutput}
 use Rattle.pierstride.specs.Demands.{Wrote}
 use Rattle.pierstride.proofs.FirstDemand.{suppliers-tells}
 use Rattle.pierstride.proofs.WrittenTables.{wrote, had}
 
--- "lists the suppliers of all rows a row reaches, itself included, each once, rising"
+-- of an accepted table: 8 where the row is not there, else 11 where the output is shorter than the list, else the list is written
+module _ (s : List ℕ) (c : Contents) (is : reading s ≡ answered c) (r : ℕ) (out : List ℕ) where
+  pub list-missing : length (c .rows) ≤ r → suppliersAnswer s r out ≡ writtenOf (refusing (refusal notThere 0))
+  unfolding listOf sent
+  list-missing h = rw (is, le-leb (length (c .rows)) r h)
+
+  there : r < length (c .rows) → saysSuppliers s r ≡ answered (suppliersOf (c .rows) (c .suppliers) r)
+  unfolding listOf
+  there h = rw (is, lt-leb (length (c .rows)) r h)
+
+  pub list-too-short : r < length (c .rows) → length out < length (suppliersOf (c .rows) (c .suppliers) r) →
+      suppliersAnswer s r out ≡ writtenOf (refusing (refusal outputTooShort 0))
+  unfolding sent
+  list-too-short h l = rw (there h, lt-ltb (length out) (length (suppliersOf (c .rows) (c .suppliers) r)) l)
+
+  pub list-given : r < length (c .rows) → length (suppliersOf (c .rows) (c .suppliers) r) ≤ length out →
+      Wrote (suppliersOf (c .rows) (c .suppliers) r) out (suppliersAnswer s r out) (suppliersOutput s r out)
+  list-given h l = wrote (saysSuppliers s r) out (suppliersOf (c .rows) (c .suppliers) r) (there h) l
+
+-- "lists the suppliers of all rows a row reaches, itself included, each once, rising": of whatever was written
 module _ (s : List ℕ) (r : ℕ) (out : List ℕ) (done : suppliersAnswer s r out .refusal ≡ 0) where
   -- the bytes that were written
   abbrev pub list : List ℕ
@@ -72,7 +92,8 @@ module _ (s : List ℕ) (r : ℕ) (out : List ℕ) (done : suppliersAnswer s r o
     pub list-rises : (i j : ℕ) → i < j → j < length list → getD list i 0 < getD list j 0
     list-rises i j h l = rw list-is (suppliers-rise (c .rows) (c .suppliers) r i j h (rw list-is at l))
 
--- "every table of rows and suppliers has one encoding": two accepted tables with the same constraints, rows, suppliers and questions are the same bytes
+-- a table of rows and suppliers has one encoding: two accepted tables with the same constraints, rows, suppliers and questions are the same bytes. That it has
+-- one at all is `whole-accepted` (table/proofs/Writing.antt).
 pub one-encoding : (s t : List ℕ) (c d : Contents) → reading s ≡ answered c → reading t ≡ answered d → c .constraints ≡ d .constraints →
     c .rows ≡ d .rows → c .suppliers ≡ d .suppliers → c .questions ≡ d .questions → s ≡ t
 one-encoding s t c d is other constraints rows suppliers questions =

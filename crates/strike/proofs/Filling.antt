@@ -6,17 +6,17 @@ use mathlib.Core.Logic.{_⊎_, ⊎-elim}
 use Prim.Native.Nat.{ℕ, _+_, _-_, _≤_, _<_}
 use native.Mathlib.Omega.{arith}
 use native.Mathlib.Numerals.{add-one}
-use lib.ListN.{length, getD, take, drop, length-append, length-drop, take-append-drop}
-use lib.Seq.{take-length, take-at, drop-at, drop-drop, drop-append-add, length-take-le}
+use lib.ListN.{length, getD, take, drop, length-append, length-drop}
+use lib.Seq.{take-at, drop-at, drop-drop, drop-append-add}
 use borrow.Rule.Slice.PartMut.{putMid, midOf}
 use Rattle.entries.specs.declared.Entry.{Entry}
 use Rattle.table.specs.declared.Table.{Table}
 use Rattle.entries.specs.Entries.{blank, bytesOf, onto}
-use Rattle.table.specs.Suppliers.{noSupplier, change, marked, lastOf}
+use Rattle.table.specs.Suppliers.{noSupplier, change, marked}
 use Rattle.table.specs.Contents.{Contents, others, ruled, entries, written}
 use Rattle.table.specs.Reading.{suppliersIn, contentsIn}
 use Rattle.entries.proofs.Putting.{put-behind}
-use Rattle.table.proofs.Marking.{marked-append, marked-more, last-more}
+use Rattle.table.proofs.Marking.{forceAt, force-more, markedTo, markedFrom, marked-more, marked-parts, marked-all}
 use Rattle.table.proofs.Writing.{written-append}
 use Rattle.table.proofs.Held.{first-at, owners, owners-length, owner-of-row, owner-past-rows, others-marked}
 use Rattle.table.proofs.Held.{rows-count, questions-count, one-each, other-row, other-question}
@@ -59,43 +59,37 @@ module _ (t : Table) (r : ℕ) (u : r < t .tally .rows) where
   left-entries : entries left ≡ constraints ++ marked noSupplier (owners left) (others left)
   left-entries = ap (λ (es : List Entry). constraints ++ es) (others-marked left left-each refl)
 
-  -- what is written before entry j behind the constraints, and with it; and the supplier in force there
+  -- what is written before entry j behind the constraints; with it; and all
+  pub both-count : length (owners left) ≡ length (others left)
+  both-count = owners-length left left-each refl
+
   abbrev pub leftTo : ℕ → List Entry
-  leftTo j = constraints ++ marked noSupplier (take j (owners left)) (take j (others left))
+  leftTo j = constraints ++ markedTo (owners left) (others left) both-count j
 
   abbrev pub inForce : ℕ → ℕ
-  inForce j = lastOf noSupplier (take j (owners left))
-
-  both-count : length (owners left) ≡ length (others left)
-  both-count = owners-length left left-each refl
+  inForce = forceAt (owners left)
 
   pub left-more : (j s force : ℕ) (e : Entry) → j < used + asked - 1 → force ≡ inForce j → s ≡ getD (owners left) j noSupplier →
       e ≡ getD (others left) j blank → leftTo (j + 1) ≡ leftTo j ++ (change force s ++ (e ∷ []))
   left-more j s force e l f p q =
-      let first = marked noSupplier (take j (owners left)) (take j (others left)) in
-      rw (f, p, q, marked-more noSupplier (owners left) (others left) j both-count (omega (arith, left-count)))
-      (sym (append-assoc constraints first (change (inForce j) (getD (owners left) j noSupplier) ++ (getD (others left) j blank ∷ []))))
+      ap (λ (es : List Entry). constraints ++ es) (marked-more (owners left) (others left) both-count j s force e (omega (arith, left-count)) f p q)
+      ∙ sym (append-assoc constraints (markedTo (owners left) (others left) both-count j) (change force s ++ (e ∷ [])))
 
-  pub force-more : (j s : ℕ) → j < used + asked - 1 → s ≡ getD (owners left) j noSupplier → s ≡ inForce (j + 1)
-  force-more j s l p = p ∙ sym (last-more noSupplier (owners left) j (omega (arith, left-count, both-count)))
+  pub force-behind : (j s : ℕ) → j < used + asked - 1 → s ≡ getD (owners left) j noSupplier → s ≡ inForce (j + 1)
+  force-behind j s l p = force-more (owners left) j s (omega (arith, left-count, both-count)) p
 
   abbrev pub leftFrom : ℕ → List Entry
-  leftFrom j = marked (inForce j) (drop j (owners left)) (drop j (others left))
+  leftFrom = markedFrom (owners left) (others left) both-count
 
   pub left-parts : (j : ℕ) → j ≤ used + asked - 1 → entries left ≡ leftTo j ++ leftFrom j
   left-parts j h =
-      let both : length (take j (owners left)) ≡ length (take j (others left)) =
-      length-take-le j (owners left) (omega (arith, both-count, left-count)) ∙ sym (length-take-le j (others left) (omega (arith, left-count))) in
       left-entries
-      ∙ ap (λ (es : List Entry). constraints ++ es)
-      (ap₂ (marked noSupplier) (sym (take-append-drop j (owners left))) (sym (take-append-drop j (others left)))
-      ∙ marked-append noSupplier (take j (owners left)) (drop j (owners left)) (take j (others left)) (drop j (others left)) both)
-      ∙ sym (append-assoc constraints (marked noSupplier (take j (owners left)) (take j (others left))) (leftFrom j))
+      ∙ ap (λ (es : List Entry). constraints ++ es) (marked-parts (owners left) (others left) both-count j (omega (arith, left-count)))
+      ∙ sym (append-assoc constraints (markedTo (owners left) (others left) both-count j) (leftFrom j))
 
   pub left-all : (j : ℕ) → j ≡ used + asked - 1 → leftTo j ≡ entries left
   left-all j q =
-      let all : j ≡ length (others left) = q ∙ sym left-count in
-      rw (all, take-length (others left), ← both-count, take-length (owners left)) (sym left-entries)
+      ap (λ (es : List Entry). constraints ++ es) (marked-all (owners left) (others left) both-count j (q ∙ sym left-count)) ∙ sym left-entries
 
   -- entry j, as the code takes it, from its number i among the others of the table; and its supplier
   module _ {A B : Type 0} (j i : ℕ) (l : j < used + asked - 1) (below : A → (j < r) × (i ≡ j)) (above : B → (r ≤ j) × (i ≡ j + 1))

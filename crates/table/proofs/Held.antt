@@ -5,8 +5,8 @@ use mathlib.Core.List.{List, [], _∷_, _++_, append-nil}
 use mathlib.Core.Logic.{_⊎_, ⊎-elim}
 use Prim.Native.Nat.{ℕ, zero, suc, _+_, _-_, _≤_, _<_}
 use native.Mathlib.Omega.{arith}
-use lib.ListN.{length, getD, take, drop, replicate, length-append, length-replicate, take-append-drop, List·getD-append}
-use lib.Seq.{getD-at, getD-append-add, ext-getD, take-append-add, take-length, length-take-le}
+use lib.ListN.{length, getD, take, replicate, length-append, length-replicate, List·getD-append}
+use lib.Seq.{getD-at, getD-append-add, ext-getD, take-append-add}
 use Rattle.entries.specs.declared.Entry.{Entry}
 use Rattle.table.specs.declared.Table.{Table}
 use Rattle.entries.specs.Entries.{blank}
@@ -17,7 +17,7 @@ use Rattle.table.specs.Reading.{padded, tableOf, firstOf, suppliersIn, c
 use Rattle.table.specs.Whole.{Whole}
 use Rattle.entries.proofs.Numbers.{by-order}
 use Rattle.table.proofs.Padding.{padded-at}
-use Rattle.table.proofs.Marking.{unchanged, last-append, last-same, marked-append, marked-same, marked-more, last-more}
+use Rattle.table.proofs.Marking.{unchanged, last-append, last-same, marked-append, marked-same, forceAt, markedTo}
 
 -- the first n elements of a list
 module _ {A : Type 0} (z : A) where
@@ -62,8 +62,8 @@ unfolding tableOf
 table-fits c w = record { bound-fit = w .constraints-fit; used-fit = w .rows-fit; asked-fit = w .questions-fit }
 
 -- the entries that are no 60s, and for each the supplier in force behind it: 0 before the rows, and the last one behind them
-abbrev pub numbered : Contents → List Entry
-numbered c = c .constraints ++ others c
+abbrev pub unmarked : Contents → List Entry
+unmarked c = c .constraints ++ others c
 
 abbrev pub owners : Contents → List ℕ
 owners c = c .suppliers ++ replicate (length (c .questions)) (lastSupplier c)
@@ -123,13 +123,13 @@ module _ (c : Contents) (many : length (c .suppliers) ≡ length (c .rows)) (set
       (sym (marked-append noSupplier (c .suppliers) (replicate (length (c .questions)) last) (c .rows) (c .questions) many
       ∙ ap (λ (l : List Entry). marked noSupplier (c .suppliers) (c .rows) ++ l) (marked-same last (c .questions))))
 
-  pub all-length : length (allOwners c) ≡ length (numbered c)
+  pub all-length : length (allOwners c) ≡ length (unmarked c)
   all-length =
       length-append (replicate (length (c .constraints)) noSupplier) (owners c)
       ∙ ap₂ _+_ (length-replicate (length (c .constraints)) noSupplier) owners-length
       ∙ sym (length-append (c .constraints) (others c))
 
-  pub all-marked : entries c ≡ marked noSupplier (allOwners c) (numbered c)
+  pub all-marked : entries c ≡ marked noSupplier (allOwners c) (unmarked c)
   all-marked =
       let front = replicate (length (c .constraints)) noSupplier in
       ap₂ _++_ (sym (marked-same noSupplier (c .constraints)))
@@ -182,22 +182,22 @@ module _ (t : Table) where
   other-question i h l = behind blank rows questions used i rows-count h ∙ first-at blank (t .questions) asked (i - used) (omega arith)
 
   -- entry i of all that are no 60s
-  pub numbered-length : length (numbered (contentsIn t)) ≡ bound + used + asked
-  numbered-length = length-append constraints (others (contentsIn t)) ∙ omega (arith, constraints-count, others-length)
+  pub unmarked-length : length (unmarked (contentsIn t)) ≡ bound + used + asked
+  unmarked-length = length-append constraints (others (contentsIn t)) ∙ omega (arith, constraints-count, others-length)
 
-  numbered-constraint : (i : ℕ) → i < bound → getD (numbered (contentsIn t)) i blank ≡ getD (t .constraints) i blank
-  numbered-constraint i l =
+  unmarked-constraint : (i : ℕ) → i < bound → getD (unmarked (contentsIn t)) i blank ≡ getD (t .constraints) i blank
+  unmarked-constraint i l =
       List·getD-append constraints (others (contentsIn t)) blank i (rw constraints-count l) ∙ first-at blank (t .constraints) bound i l
 
-  past-constraints : (i : ℕ) → bound ≤ i → getD (numbered (contentsIn t)) i blank ≡ getD (others (contentsIn t)) (i - bound) blank
+  past-constraints : (i : ℕ) → bound ≤ i → getD (unmarked (contentsIn t)) i blank ≡ getD (others (contentsIn t)) (i - bound) blank
   past-constraints i h = behind blank constraints (others (contentsIn t)) bound i constraints-count h
 
-  numbered-row : (i : ℕ) → bound ≤ i → i < bound + used → getD (numbered (contentsIn t)) i blank ≡ getD (t .rows) (i - bound) blank
-  numbered-row i h l = past-constraints i h ∙ other-row (i - bound) (omega arith)
+  unmarked-row : (i : ℕ) → bound ≤ i → i < bound + used → getD (unmarked (contentsIn t)) i blank ≡ getD (t .rows) (i - bound) blank
+  unmarked-row i h l = past-constraints i h ∙ other-row (i - bound) (omega arith)
 
-  numbered-question : (i : ℕ) → bound + used ≤ i → i < bound + used + asked →
-      getD (numbered (contentsIn t)) i blank ≡ getD (t .questions) (i - (bound + used)) blank
-  numbered-question i h l =
+  unmarked-question : (i : ℕ) → bound + used ≤ i → i < bound + used + asked →
+      getD (unmarked (contentsIn t)) i blank ≡ getD (t .questions) (i - (bound + used)) blank
+  unmarked-question i h l =
       let q : i - bound - used ≡ i - (bound + used) = omega arith in
       past-constraints i (omega arith) ∙ other-question (i - bound) (omega arith) (omega arith) ∙ rw q
 
@@ -216,18 +216,19 @@ module _ (t : Table) where
   other-at i e l row question =
       ⊎-elim (λ w. row w .1 ∙ sym (other-row i (row w .0))) (λ w. question w .1 ∙ sym (other-question i (question w .0) l))
 
-  pub numbered-at : {A B C : Type 0} (i : ℕ) (e : Entry) → i < bound + used + asked →
+  pub unmarked-at : {A B C : Type 0} (i : ℕ) (e : Entry) → i < bound + used + asked →
       (A → (i < bound) × (e ≡ getD (t .constraints) i blank)) →
       (B → (bound ≤ i) × (i < bound + used) × (e ≡ getD (t .rows) (i - bound) blank)) →
       (C → (bound + used ≤ i) × (e ≡ getD (t .questions) (i - (bound + used)) blank)) → A ⊎ (B ⊎ C) →
-      e ≡ getD (numbered (contentsIn t)) i blank
-  numbered-at i e l constraint row question =
-      ⊎-elim (λ w. constraint w .1 ∙ sym (numbered-constraint i (constraint w .0)))
-      (⊎-elim (λ w. row w .2 ∙ sym (numbered-row i (row w .0) (row w .1)))
-      (λ w. question w .1 ∙ sym (numbered-question i (question w .0) l)))
+      e ≡ getD (unmarked (contentsIn t)) i blank
+  unmarked-at i e l constraint row question =
+      ⊎-elim (λ w. constraint w .1 ∙ sym (unmarked-constraint i (constraint w .0)))
+      (⊎-elim (λ w. row w .2 ∙ sym (unmarked-row i (row w .0) (row w .1)))
+      (λ w. question w .1 ∙ sym (unmarked-question i (question w .0) l)))
 
+  -- the supplier in force before entry i
   abbrev pub inForce : ℕ → ℕ
-  inForce i = lastOf noSupplier (take i (allOwners (contentsIn t)))
+  inForce = forceAt (allOwners (contentsIn t))
 
   front-count : length (replicate (length constraints) noSupplier) ≡ bound
   front-count = length-replicate (length constraints) noSupplier ∙ constraints-count
@@ -247,33 +248,12 @@ module _ (t : Table) where
       ∙ owner-row (i - bound) (omega (arith, row w .0, row w .1))))
       (λ w. question w .1 ∙ sym (owner-behind front more bound i front-count (omega (arith, question w .0)) (later (question w .0)))))
 
-  -- what was written before entry i, and with it; and the supplier in force behind it
-  abbrev pub heldTo : ℕ → List Entry
-  heldTo i = marked noSupplier (take i (allOwners (contentsIn t))) (take i (numbered (contentsIn t)))
-
-  both-count : length (allOwners (contentsIn t)) ≡ length (numbered (contentsIn t))
+  -- what is written before entry i; with it; and all
+  pub both-count : length (allOwners (contentsIn t)) ≡ length (unmarked (contentsIn t))
   both-count = all-length (contentsIn t) one-each refl
 
-  pub held-more : (i s : ℕ) (e : Entry) → i < bound + used + asked → s ≡ getD (allOwners (contentsIn t)) i noSupplier →
-      e ≡ getD (numbered (contentsIn t)) i blank → heldTo (i + 1) ≡ heldTo i ++ (change (inForce i) s ++ (e ∷ []))
-  held-more i s e l p q =
-      rw (p, q) (marked-more noSupplier (allOwners (contentsIn t)) (numbered (contentsIn t)) i both-count (omega (arith, numbered-length)))
+  abbrev pub heldTo : ℕ → List Entry
+  heldTo = markedTo (allOwners (contentsIn t)) (unmarked (contentsIn t)) both-count
 
-  pub force-more : (i s : ℕ) → i < bound + used + asked → s ≡ getD (allOwners (contentsIn t)) i noSupplier → s ≡ inForce (i + 1)
-  force-more i s l p = p ∙ sym (last-more noSupplier (allOwners (contentsIn t)) i (omega (arith, numbered-length, both-count)))
-
-  pub held-all : (i : ℕ) → i ≡ bound + used + asked → heldTo i ≡ held t
-  held-all i q =
-      let all : i ≡ length (numbered (contentsIn t)) = q ∙ sym numbered-length in
-      rw (all, take-length (numbered (contentsIn t)), ← both-count, take-length (allOwners (contentsIn t))) (sym (all-marked (contentsIn t) one-each refl))
-
-  -- and what is written first is the front of all
-  pub held-front : (i : ℕ) → i ≤ bound + used + asked →
-      held t ≡ heldTo i ++ marked (inForce i) (drop i (allOwners (contentsIn t))) (drop i (numbered (contentsIn t)))
-  held-front i h =
-      let ss = allOwners (contentsIn t) in
-      let es = numbered (contentsIn t) in
-      let both : length (take i ss) ≡ length (take i es) =
-      length-take-le i ss (omega (arith, both-count, numbered-length)) ∙ sym (length-take-le i es (omega (arith, numbered-length))) in
-      all-marked (contentsIn t) one-each refl ∙ ap₂ (marked noSupplier) (sym (take-append-drop i ss)) (sym (take-append-drop i es))
-      ∙ marked-append noSupplier (take i ss) (drop i ss) (take i es) (drop i es) both
+  pub held-all : held t ≡ marked noSupplier (allOwners (contentsIn t)) (unmarked (contentsIn t))
+  held-all = all-marked (contentsIn t) one-each refl

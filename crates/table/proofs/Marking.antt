@@ -2,11 +2,11 @@
 -- Assumes nothing.
 use mathlib.Core.Path.{_≡_, refl, sym, ap, ap₂, _∙_}
 use mathlib.Core.List.{List, [], _∷_, _++_, append-assoc}
-use Prim.Native.Nat.{ℕ, zero, suc, _+_, _<_}
+use Prim.Native.Nat.{ℕ, zero, suc, _+_, _≤_, _<_}
 use native.Mathlib.Omega.{arith}
 use native.Mathlib.Numerals.{add-one}
-use lib.ListN.{length, getD, take, replicate}
-use lib.Seq.{take-suc, length-take-le}
+use lib.ListN.{length, getD, take, drop, replicate, take-append-drop}
+use lib.Seq.{take-suc, take-length, length-take-le}
 use borrow.Author.Tests.{eq-eqb, ne-eqb}
 use Rattle.entries.specs.declared.Entry.{Entry}
 use Rattle.entries.specs.Entries.{blank}
@@ -47,17 +47,37 @@ unfolding marked
 marked-same force [] = refl
 marked-same force (e ∷ es) = ap₂ (λ (l m : List Entry). l ++ (e ∷ m)) (unchanged force force refl) (marked-same force es)
 
--- the first rows, and the next with its 60
-pub marked-more : (force : ℕ) (ss : List ℕ) (es : List Entry) (i : ℕ) → length ss ≡ length es → i < length es →
-    marked force (take (i + 1) ss) (take (i + 1) es)
-    ≡ marked force (take i ss) (take i es) ++ (change (lastOf force (take i ss)) (getD ss i noSupplier) ++ (getD es i blank ∷ []))
-unfolding marked
-marked-more force ss es i q l =
-    let m : i < length ss = omega arith in
-    let both : length (take i ss) ≡ length (take i es) = length-take-le i ss (omega arith) ∙ sym (length-take-le i es (omega arith)) in
-    rw (add-one i, take-suc ss i noSupplier m, take-suc es i blank l)
-    (marked-append force (take i ss) (getD ss i noSupplier ∷ []) (take i es) (getD es i blank ∷ []) both)
+-- the supplier in force before row i
+abbrev pub forceAt : List ℕ → ℕ → ℕ
+forceAt ss i = lastOf noSupplier (take i ss)
 
-pub last-more : (force : ℕ) (ss : List ℕ) (i : ℕ) → i < length ss → lastOf force (take (i + 1) ss) ≡ getD ss i noSupplier
+pub force-more : (ss : List ℕ) (i s : ℕ) → i < length ss → s ≡ getD ss i noSupplier → s ≡ forceAt ss (i + 1)
 unfolding lastOf
-last-more force ss i l = rw (add-one i, take-suc ss i noSupplier l) (last-append force (take i ss) (getD ss i noSupplier ∷ []))
+force-more ss i s l p = p ∙ sym (rw (add-one i, take-suc ss i noSupplier l) (last-append noSupplier (take i ss) (getD ss i noSupplier ∷ [])))
+
+-- rows one by one, as a loop writes them: those before row i, it with its 60, and what is left
+module _ (ss : List ℕ) (es : List Entry) (many : length ss ≡ length es) where
+  abbrev pub markedTo : ℕ → List Entry
+  markedTo i = marked noSupplier (take i ss) (take i es)
+
+  abbrev pub markedFrom : ℕ → List Entry
+  markedFrom i = marked (forceAt ss i) (drop i ss) (drop i es)
+
+  both-taken : (i : ℕ) → i ≤ length es → length (take i ss) ≡ length (take i es)
+  both-taken i l = length-take-le i ss (omega arith) ∙ sym (length-take-le i es l)
+
+  pub marked-more : (i s force : ℕ) (e : Entry) → i < length es → force ≡ forceAt ss i → s ≡ getD ss i noSupplier → e ≡ getD es i blank →
+      markedTo (i + 1) ≡ markedTo i ++ (change force s ++ (e ∷ []))
+  unfolding marked
+  marked-more i s force e l f p q =
+      let first = take-suc ss i noSupplier (omega arith) in
+      rw (f, p, q, add-one i, first, take-suc es i blank l)
+      (marked-append noSupplier (take i ss) (getD ss i noSupplier ∷ []) (take i es) (getD es i blank ∷ []) (both-taken i (omega arith)))
+
+  pub marked-parts : (i : ℕ) → i ≤ length es → marked noSupplier ss es ≡ markedTo i ++ markedFrom i
+  marked-parts i l =
+      ap₂ (marked noSupplier) (sym (take-append-drop i ss)) (sym (take-append-drop i es))
+      ∙ marked-append noSupplier (take i ss) (drop i ss) (take i es) (drop i es) (both-taken i l)
+
+  pub marked-all : (i : ℕ) → i ≡ length es → markedTo i ≡ marked noSupplier ss es
+  marked-all i q = rw (q, take-length es, ← many, take-length ss)

@@ -3,7 +3,7 @@
 use mathlib.Core.Path.{_≡_, refl, sym, ap, _∙_}
 use mathlib.Core.Bool.{Bool, true, false, cond, _&&_, _||_}
 use mathlib.Core.List.{[], _∷_}
-use mathlib.Core.Logic.{_⊎_, inl, inr, ⊎-elim}
+use mathlib.Core.Logic.{⊎-elim}
 use Prim.Native.Nat.{ℕ, zero, suc, _-_, _≤_, _<_}
 use native.Mathlib.Omega.{arith}
 use lib.Dec.{ltb, eqb}
@@ -22,7 +22,7 @@ use Rattle.entries.specs.Refusals.{atKindByte, atNumber, ofEntries, isAmong}
 use Rattle.entries.specs.Said.{Said, answered, refusing, refusal, unless}
 use Rattle.entries.specs.Entries.{numbersOf, namesOf}
 use Rattle.table.specs.Steps.{rowLimit, questionLimit, constraintLimit, numberPlace, roomBy, noRoom, limit, namedAt, fits, firstUnfit}
-use Rattle.table.specs.Steps.{offending, misnamed, misnaming, placedBy, ifIdle, permitted}
+use Rattle.table.specs.Steps.{offending, misnamed, misnaming, placedBy, unlessPlaced, permitted}
 use Rattle.table.specs.Whole.{named}
 use Rattle.entries.proofs.Numbers.{by-order}
 use Rattle.entries.proofs.Saying.{not-both, unless-none, unless-answered, unless-refusing}
@@ -138,18 +138,18 @@ misnaming-some e (suc i) h = refl
 pub permitted-if : (e : Entry) (good : Bool) (before : Tally) → Allowed good before e → permitted e good before ≡ answered e
 unfolding permitted
 permitted-if e good before h =
-    unless-none (noRoom (e .kind) before) (unless (ifIdle good) (misnaming e (offending e before))) (h .room)
+    unless-none (noRoom (e .kind) before) (unless (unlessPlaced good) (misnaming e (offending e before))) (h .room)
     ∙ rw (h .places) (ap (misnaming e) (none-offends e before (h .names)))
 
-not-idle : (good : Bool) → ifIdle good ≡ 0 → good ≡ true
+not-idle : (good : Bool) → unlessPlaced good ≡ 0 → good ≡ true
 not-idle true e = refl
 not-idle false e = absurd (omega arith)
 
 pub allowed-if : (e f : Entry) (good : Bool) (before : Tally) → permitted e good before ≡ answered f → (e ≡ f) × Allowed good before e
 unfolding permitted
 allowed-if e f good before q =
-    let room = unless-answered (noRoom (e .kind) before) (unless (ifIdle good) (misnaming e (offending e before))) f q in
-    let idle = unless-answered (ifIdle good) (misnaming e (offending e before)) f (room .1) in
+    let room = unless-answered (noRoom (e .kind) before) (unless (unlessPlaced good) (misnaming e (offending e before))) f q in
+    let idle = unless-answered (unlessPlaced good) (misnaming e (offending e before)) f (room .1) in
     let names = misnaming-answered e f (offending e before) (idle .1) in
     (names .0, record { room = room .0; places = not-idle good (idle .0); names = all-named e before (names .1) })
 
@@ -212,9 +212,9 @@ pub by-refusal : {P : Type 0} (e : Entry) (good : Bool) (before : Tally) (why : 
 unfolding permitted
 by-refusal {P} e good before why q room idle names =
     ⊎-elim (λ h. room (h .0) (h .1)) (go good refl)
-    (unless-refusing (noRoom (e .kind) before) (unless (ifIdle good) (misnaming e (offending e before))) why q)
+    (unless-refusing (noRoom (e .kind) before) (unless (unlessPlaced good) (misnaming e (offending e before))) why q)
   where
-    go : (g : Bool) → good ≡ g → unless (ifIdle g) (misnaming e (offending e before)) ≡ refusing why → P
+    go : (g : Bool) → good ≡ g → unless (unlessPlaced g) (misnaming e (offending e before)) ≡ refusing why → P
     go true p h = names h
     go false p h = idle p cc
 

@@ -73,10 +73,11 @@ predicates c = max (highest (c .constraints)) (highest (c .rows))
 abbrev pub Covers : ℕ → List Entry → Type 0
 Covers n es = (i : ℕ) → uses (getD es i blank) ≤ n
 
--- with no 60 that waits for its row
+-- the last row's supplier; 0 where there is no row
 abbrev pub lastSupplier : Contents → ℕ
 lastSupplier c = lastOf noSupplier (c .suppliers)
 
+-- the contents with no 60 that waits for its row
 abbrev pub settled : Contents → Contents
 settled c = record {
   constraints = c .constraints;

@@ -31,7 +31,7 @@ pub record Misnames (s : List ℕ) (start : ℕ) (before : Tally) (number place 
 abbrev pub Points : List ℕ → ℕ → Tally → ℕ → ℕ → Type 0
 Points s start before number place = ((isAmong atKindByte number ≡ true) × (place ≡ start)) ⊎ Misnames s start before number place
 
--- no 60 waits for its row, or one does and a row follows (02, L6)
+-- no 60 waits for its row; or one does, which names a byte, a row follows, and there is no question yet (02, L6)
 abbrev pub Awaits : Contents → Bool → Type 0
 Awaits c follows = (c .supplier ≡ lastSupplier c) ⊎ ((follows ≡ true) × (c .questions ≡ []) × (c .supplier < numberLimit))
 

@@ -51,7 +51,7 @@ firstOf z l (suc n) = firstOf z l n ++ (getD l n z ∷ [])
 abbrev pub upTo : List Entry → ℕ → List Entry
 upTo = firstOf blank
 
--- the contents that a struct holds
+-- the suppliers that a struct holds, one a row, and its contents
 abbrev pub suppliersIn : Table → List ℕ
 suppliersIn t = firstOf noSupplier (t .suppliers) (t .tally .rows)
 

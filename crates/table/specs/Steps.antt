@@ -90,7 +90,7 @@ noRoom (Constraint k) before = roomBy (ltb 0 (before .rows) || ltb 0 (before .qu
 noRoom Supplier before = cond (ltb 0 (before .questions)) outOfOrder 0
 
 -- "A row may name only rows with a lower number; 42 and 43 only lower questions; 40 and 41 any row of the table": at a question all rows are read already,
--- since 5 keeps rows before questions
+-- since 5 keeps rows before questions. Any byte is a supplier.
 abbrev pub limit : Names → Tally → ℕ
 limit Nothing before = 0
 limit Predicates before = predicateLimit
@@ -143,12 +143,12 @@ placedBy Supplier s force follows = not (eqb s force) && follows
 unfoldable pub placed : Entry → ℕ → Bool → Bool
 placed e force follows = placedBy (e .kind) (e .a) force follows
 
-abbrev pub ifIdle : Bool → ℕ
-ifIdle good = cond good 0 idleSupplier
+abbrev pub unlessPlaced : Bool → ℕ
+unlessPlaced wellPlaced = cond wellPlaced 0 idleSupplier
 
--- whether an entry may stand there: 5, 6, 7 and 14, then 15, then 3 and 4
+-- whether an entry may stand there: 5, 6, 7 and 14, then 15, by whether it is well placed, then 3 and 4
 unfoldable pub permitted : Entry → Bool → Tally → Said Entry
-permitted e good before = unless (noRoom (e .kind) before) (unless (ifIdle good) (misnaming e (offending e before)))
+permitted e wellPlaced before = unless (noRoom (e .kind) before) (unless (unlessPlaced wellPlaced) (misnaming e (offending e before)))
 
 -- 1, kind not listed; 2, the body is cut short, behind 5, 6, 7 and 14. A refusal's place is counted from the kind byte.
 unfoldable pub judged : Decoded → List ℕ → ℕ → Tally → Said Entry

@@ -4,15 +4,17 @@ use entries::Entry;
 use entries::refusals;
 use entries::refusals::Refusal;
 use kinds::Announced;
+use kinds::Form;
 use kinds::Kind;
 use kinds::Names;
 ghost use mathlib.Core.Path.{_≡_};
 ghost use Prim.Native.Nat.{_+_, _<_};
 ghost use lib.ListN.{length, getD, drop};
 ghost use Rattle.entries.specs.Refusals.{cutShort};
-ghost use Rattle.entries.specs.Said.{refusing, refusal, unless};
+ghost use Rattle.kinds.specs.Kinds.{formOf};
+ghost use Rattle.entries.specs.Said.{refusing, refusal, unless, orElse};
 ghost use Rattle.table.specs.Steps.{oneMore, roomBy, noRoom, limit, misnamed, numberAt, numberPlace, namedAt, offending};
-ghost use Rattle.table.specs.Steps.{bodyOf, decoded, beginsRow, placed, permitted, stepOf, shownStep, shownEntered};
+ghost use Rattle.table.specs.Steps.{bodyOf, decoded, beginsRow, placed, unlessPlaced, permitted, stepOf, shownStep, shownEntered};
 
 // So many constraints, rows and questions.
 pub struct Tally {
@@ -140,12 +142,11 @@ fn number_place(i: usize) -> usize
     i + 1
 }
 
-// The place of the first of an entry's numbers, in the body's order, that is not below its limit; 0 where each is.
-fn offending_in(e: Entry, before: Tally) -> usize
+// The place of the first of an entry's numbers, in the body's order, that is not below its limit; 0 where each is. Its kind's form is told.
+fn offending_in(form: Form, e: Entry, before: Tally) -> usize
+    requires { ⌜ form ≡ formOf (e .kind) ⌝ }
     ensures { λ r. ⌜ r ≡ offending e before ⌝ }
 {
-    let kind = e.kind;
-    let form = kinds::form_of(kind);
     let names = form.names;
     let numbers = form.numbers;
     let below = limit_of(names, before);
@@ -231,22 +232,30 @@ fn placed_at(e: Entry, force: u8, s: &[u8], next: usize) -> bool
     }
 }
 
-// Whether an entry may stand behind so many others; and whether, if it is a supplier, that is not idle.
-pub(crate) fn permit(e: Entry, good: bool, before: Tally) -> Step
-    ensures { λ r. ⌜ r ≡ shownStep (permitted e good before) ⌝ }
+// 5, 6, 7 or 14 where there is no room for an entry of a kind, 15 where it is an idle supplier, else 0.
+fn out_of_place(kind: Kind, well: bool, before: Tally) -> u8
+    ensures { λ r. ⌜ r ≡ orElse (noRoom kind before) (unlessPlaced well) ⌝ }
 {
-    let kind = e.kind;
     let full = no_room(kind, before);
     if full != 0 {
-        return bad(full, 0);
+        return full;
     }
-    if !good {
-        return bad(refusals::IDLE_SUPPLIER, 0);
+    if well { 0 } else { refusals::IDLE_SUPPLIER }
+}
+
+// Whether an entry may stand behind so many others; it is placed well, or is an idle supplier.
+pub(crate) fn permit(e: Entry, well: bool, before: Tally) -> Step
+    ensures { λ r. ⌜ r ≡ shownStep (permitted e well before) ⌝ }
+{
+    let kind = e.kind;
+    let out = out_of_place(kind, well, before);
+    if out != 0 {
+        return bad(out, 0);
     }
-    let place = offending_in(e, before);
+    let form = kinds::form_of(kind);
+    let names = form.names;
+    let place = offending_in(form, e, before);
     if place != 0 {
-        let form = kinds::form_of(kind);
-        let names = form.names;
         return bad(misnamed_of(names), place);
     }
     Step::Took(e)
@@ -276,11 +285,11 @@ pub(crate) fn step_at(s: &[u8], at: usize, force: u8, before: Tally) -> Step
     }
 }
 
-// An entry behind so many others; and whether, if it is a supplier, that is not idle.
-pub fn enter(e: Entry, good: bool, before: Tally) -> Entered
-    ensures { λ r. ⌜ r ≡ shownEntered before (permitted e good before) ⌝ }
+// An entry behind so many others; it is placed well, or is an idle supplier.
+pub fn enter(e: Entry, well: bool, before: Tally) -> Entered
+    ensures { λ r. ⌜ r ≡ shownEntered before (permitted e well before) ⌝ }
 {
-    let step = permit(e, good, before);
+    let step = permit(e, well, before);
     match step {
         Step::Took(_) => {
             let kind = e.kind;

@@ -1,4 +1,4 @@
-// Whose rows are: entry 60, and how many bytes one takes where the supplier changes.
+// Whose rows are: entry 60, the supplier in force, and an entry written behind the 60 that it needs where the supplier changes.
 use entries::Entry;
 use kinds::Kind;
 ghost use mathlib.Core.Path.{_≡_};

@@ -4,14 +4,14 @@ use mathlib.Core.Path.{_≡_, refl, sym, ap, _∙_}
 use mathlib.Core.List.{List, [], _∷_, _++_, append-assoc, append-nil}
 use Prim.Native.Nat.{ℕ, _+_, _≤_, _<_}
 use native.Mathlib.Omega.{arith}
-use lib.ListN.{length, getD, drop, length-append}
+use lib.ListN.{length, getD, length-append}
 use Rattle.entries.specs.declared.Entry.{Entry}
 use Rattle.entries.specs.Entries.{blank}
 use Rattle.table.specs.declared.Table.{Table}
-use Rattle.table.specs.Suppliers.{noSupplier, supplying, change, marked}
+use Rattle.table.specs.Suppliers.{noSupplier, supplying, change}
 use Rattle.table.specs.Reading.{contentsIn, held}
-use Rattle.table.proofs.Marking.{unchanged, changed}
-use Rattle.table.proofs.Held.{numbered, allOwners, inForce, heldTo, held-more, held-all, held-front}
+use Rattle.table.proofs.Marking.{unchanged, changed, force-more, markedFrom, marked-more, marked-parts, marked-all}
+use Rattle.table.proofs.Held.{unmarked, allOwners, unmarked-length, inForce, both-count, heldTo, held-all}
 use Rattle.text.specs.Lines.{lineOf, textOf}
 
 text-append : (es fs : List Entry) → textOf (es ++ fs) ≡ textOf es ++ textOf fs
@@ -33,22 +33,34 @@ module _ (t : Table) where
   abbrev count : ℕ
   count = t .tally .constraints + t .tally .rows + t .tally .questions
 
+  abbrev owners : List ℕ
+  owners = allOwners (contentsIn t)
+
+  abbrev all : List Entry
+  all = unmarked (contentsIn t)
+
   abbrev pub textTo : ℕ → List ℕ
   textTo i = textOf (heldTo t i)
 
-  module _ (i s force : ℕ) (e : Entry) (here : i < count) (in-force : force ≡ inForce t i) (owner : s ≡ getD (allOwners (contentsIn t)) i noSupplier)
-      (next : e ≡ getD (numbered (contentsIn t)) i blank) where
+  module _ (i s force : ℕ) (e : Entry) (here : i < count) (in-force : force ≡ inForce t i) (owner : s ≡ getD owners i noSupplier)
+      (next : e ≡ getD all i blank) where
     pub text-more : textTo (i + 1) ≡ textTo i ++ textOf (change force s ++ (e ∷ []))
-    text-more = rw in-force (ap textOf (held-more t i s e here owner next) ∙ text-append (heldTo t i) (change (inForce t i) s ++ (e ∷ [])))
+    text-more =
+        ap textOf (marked-more owners all (both-count t) i s force e (omega (arith, unmarked-length t)) in-force owner next)
+        ∙ text-append (heldTo t i) (change force s ++ (e ∷ []))
 
     pub size-more : length (textTo (i + 1)) ≡ length (textTo i) + length (textOf (change force s ++ (e ∷ [])))
     size-more = ap length text-more ∙ length-append (textTo i) (textOf (change force s ++ (e ∷ [])))
 
+    pub force-behind : s ≡ inForce t (i + 1)
+    force-behind = force-more owners i s (omega (arith, both-count t, unmarked-length t)) owner
+
   pub text-within : (i : ℕ) → i ≤ count → length (textTo i) ≤ length (textOf (held t))
   text-within i h =
-      let rest = marked (inForce t i) (drop i (allOwners (contentsIn t))) (drop i (numbered (contentsIn t))) in
-      let all : textOf (held t) ≡ textTo i ++ textOf rest = ap textOf (held-front t i h) ∙ text-append (heldTo t i) rest in
-      omega (arith, ap length all, length-append (textTo i) (textOf rest))
+      let rest = markedFrom owners all (both-count t) i in
+      let parts = held-all t ∙ marked-parts owners all (both-count t) i (omega (arith, unmarked-length t)) in
+      let text : textOf (held t) ≡ textTo i ++ textOf rest = ap textOf parts ∙ text-append (heldTo t i) rest in
+      omega (arith, ap length text, length-append (textTo i) (textOf rest))
 
   pub text-all : (i : ℕ) → i ≡ count → textTo i ≡ textOf (held t)
-  text-all i q = ap textOf (held-all t i q)
+  text-all i q = ap textOf (marked-all owners all (both-count t) i (q ∙ sym (unmarked-length t)) ∙ sym (held-all t))

@@ -198,8 +198,8 @@ fn gather(text: &[u8]) -> Gathered
         let next = found.next;
         match said {
             Step::Took(e) => {
-                let good = placed_line(e, force, text, next);
-                let entered = steps::enter(e, good, tally);
+                let well = placed_line(e, force, text, next);
+                let entered = steps::enter(e, well, tally);
                 match entered {
                     Entered::In(more) => {
                         tally = more;

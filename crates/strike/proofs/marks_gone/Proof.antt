@@ -11,7 +11,7 @@ use Rattle.table.specs.Suppliers.{noSupplier, change, lastOf}
 use Rattle.table.specs.Contents.{written}
 use Rattle.table.specs.Reading.{firstOf}
 use Rattle.table.proofs.Held.{first-length, first-at}
-use Rattle.table.proofs.Marking.{last-more}
+use Rattle.table.proofs.Marking.{force-more}
 use Rattle.strike.specs.Strike.{without, markBytes}
 use Rattle.strike.proofs.Marks.{firstMark, without-marks, no-more-marks}
 use borrow.Author.Needs.{needs}
@@ -38,8 +38,8 @@ prior-is c =
     (λ w. let none : r ≡ 0 = w .0 .taken in w .1 ∙ rw none)
     (λ w. let some : 0 < r = omega (arith, w .0 .left) in
     let back : r - 1 + 1 ≡ r = omega arith in
-    let last = rw back at (last-more noSupplier ss (r - 1) (omega (arith, count start, start .pre .0))) in
-    w .1 ∙ owner start (r - 1) (omega (arith, start .pre .0)) ∙ sym last)
+    let last = force-more ss (r - 1) _ (omega (arith, count start, start .pre .0)) refl in
+    w .1 ∙ owner start (r - 1) (omega (arith, start .pre .0)) ∙ rw back at last)
     (c .if1 .came)
 
 -- the 60s before the row, and those before the one behind it

@@ -14,7 +14,7 @@ use Rattle.table.specs.Reading.{contentsIn}
 use Rattle.table.proofs.Held.{owners}
 use Rattle.table.proofs.Writing.{written-append}
 use Rattle.strike.specs.Strike.{struck}
-use Rattle.strike.proofs.Filling.{left, leftTo, leftFrom, inForce, left-more, force-more, left-parts, left-all, left-next, left-owner}
+use Rattle.strike.proofs.Filling.{left, leftTo, leftFrom, inForce, left-more, force-behind, left-parts, left-all, left-next, left-owner}
 use Rattle.strike.proofs.Filling.{Filled, filled-kept, left-written, filled-all, filled-within, filled-length, filled-room, filled-more}
 use borrow.Author.Needs.{needs}
 use Rattle.strike.proofs.write.Statement.{statement}
@@ -138,7 +138,7 @@ loop-again c u =
       omega (arith, entry .before .before .loop-test .taken),
       filled-more (inv (at-head entry) .1) (turn entry) _ _ (more entry) (parts entry) (length (now .out) - now .at) (p .result) (p .last .0) refl
           (p .ensures .0) (p .ensures .1),
-      force-more (table-at entry) (struck-row entry) (there entry) (now .j) (entry .if2 .s) (entry .before .before .loop-test .taken) (owner-is entry),
+      force-behind (table-at entry) (struck-row entry) (there entry) (now .j) (entry .if2 .s) (entry .before .before .loop-test .taken) (owner-is entry),
     )
 
 same-length : tie.Need-same-length Inv-loop μ-loop

@@ -2,7 +2,7 @@
 use mathlib.Core.Path.{ap, _∙_}
 use mathlib.Core.List.{List}
 use Prim.Native.Nat.{ℕ, suc}
-use native.Mathlib.Numerals.{add-one}
+use native.Mathlib.Omega.{arith}
 use Rattle.decide.specs.Reach.{reachesRow, passing}
 use Rattle.suppliers.specs.Suppliers.{has, flag}
 use Rattle.suppliers.proofs.Listing.{passing-same}
@@ -16,7 +16,7 @@ returns c s =
     let marks = c .before .reach in
     c .flagged .ensures s
     ∙ ap (λ (rows : List ℕ). has (args .t .suppliers) rows s)
-    (ap (λ (n : ℕ). passing n (flag (marks .result))) (add-one (args .row))
+    (ap (λ (n : ℕ). passing n (flag (marks .result))) (omega arith)
     ∙ passing-same (suc (args .row)) (flag (marks .result)) (reachesRow (args .t .rows) (args .row)) (λ i l. marks .ensures i))
 
 pub supplied-spec : {M : Type 1} → statement M

@@ -1,12 +1,12 @@
 -- That `suppliers` (src/lib.rt) keeps its promise.
-use mathlib.Core.Path.{_≡_, refl, sym, ap, _∙_}
+use mathlib.Core.Path.{_≡_, sym, ap, _∙_}
 use mathlib.Core.List.{List}
-use Prim.Native.Nat.{ℕ, _≤_, _<_}
+use Prim.Native.Nat.{ℕ, _<_}
 use native.Mathlib.Omega.{arith}
 use lib.ListN.{length, getD}
 use borrow.Author.Tests.{lt-leb, le-leb}
 use Rattle.table.specs.declared.Table.{Table}
-use Rattle.entries.specs.Said.{answered, refusing, refusal}
+use Rattle.entries.specs.Said.{answered, refusal}
 use Rattle.entries.specs.Refusals.{notThere}
 use Rattle.entries.specs.Entries.{numberLimit, blank}
 use Rattle.table.specs.Steps.{rowLimit}

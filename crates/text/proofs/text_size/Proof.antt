@@ -4,9 +4,9 @@ use Prim.Native.Nat.{_+_, _*_, _-_, _≤_, _<_}
 use native.Mathlib.Omega.{arith}
 use lib.ListN.{length}
 use Rattle.table.specs.Suppliers.{marked, lastOf}
-use Rattle.table.proofs.Held.{inForce, numbered-at, owner-at, force-more}
+use Rattle.table.proofs.Held.{inForce, unmarked-at, owner-at}
 use Rattle.text.specs.Lines.{textOf}
-use Rattle.text.proofs.Filling.{textTo, size-more, text-all}
+use Rattle.text.proofs.Filling.{textTo, size-more, force-behind, text-all}
 use borrow.Author.Needs.{needs}
 use Rattle.text.proofs.text_size.Statement.{statement}
 use Rattle.text.proofs.text_size.Tie as tie
@@ -39,14 +39,14 @@ loop-again c =
     let inv = head .loop .inv in
     let l : i < t .tally .constraints + t .tally .rows + t .tally .questions = omega (arith, join .before .loop-test .taken) in
     let e =
-    numbered-at t i (join .if1 .e) l (λ w. (w .0 .taken, w .3)) (λ w. (w .0 .left, w .1 .taken, w .5)) (λ w. (w .1 .left, w .4)) (join .if1 .came) in
+    unmarked-at t i (join .if1 .e) l (λ w. (w .0 .taken, w .3)) (λ w. (w .0 .left, w .1 .taken, w .5)) (λ w. (w .1 .left, w .4)) (join .if1 .came) in
     let s =
     owner-at t i (join .if1 .s) l (λ w. (w .0 .taken, w .2 ∙ inv .2)) (λ w. (w .0 .left, w .1 .taken, w .4)) (λ w. (w .1 .left, w .3 ∙ inv .2))
     (join .if1 .came) in
     let more = size-more t i (join .if1 .s) (head .loop .force) (join .if1 .e) l (inv .2) s e in (
       omega (arith, join .before .loop-test .taken),
       omega (arith, inv .1, c .lines-size .ensures .0, more),
-      force-more t i (join .if1 .s) l s,
+      force-behind t i (join .if1 .s) (head .loop .force) (join .if1 .e) l (inv .2) s e,
       omega (arith, inv .3, c .lines-size .ensures .1),
     )
 

@@ -9,9 +9,9 @@ use Rattle.entries.specs.Entries.{blank}
 use Rattle.table.specs.declared.Table.{Table}
 use Rattle.table.specs.Suppliers.{noSupplier, change, marked, lastOf}
 use Rattle.table.specs.Reading.{contentsIn, held}
-use Rattle.table.proofs.Held.{numbered, allOwners, inForce, numbered-at, owner-at, force-more}
+use Rattle.table.proofs.Held.{unmarked, allOwners, inForce, unmarked-at, owner-at}
 use Rattle.text.specs.Lines.{textOf}
-use Rattle.text.proofs.Filling.{textTo, text-more, size-more, text-within, text-all}
+use Rattle.text.proofs.Filling.{textTo, text-more, size-more, force-behind, text-within, text-all}
 use Rattle.text.proofs.Stores.{sets-front, from-front}
 use borrow.Author.Needs.{needs}
 use Rattle.text.proofs.write.Statement.{statement}
@@ -38,9 +38,9 @@ table-at c = start-at c .args .t1
 here : (c : tie.Joined1 Inv-loop μ-loop) → let t = table-at c in c .before .before .loop .i < t .tally .constraints + t .tally .rows + t .tally .questions
 here c = omega (arith, c .before .loop-test .taken)
 
-entry-is : (c : tie.Joined1 Inv-loop μ-loop) → c .if1 .e ≡ getD (numbered (contentsIn (table-at c))) (c .before .before .loop .i) blank
+entry-is : (c : tie.Joined1 Inv-loop μ-loop) → c .if1 .e ≡ getD (unmarked (contentsIn (table-at c))) (c .before .before .loop .i) blank
 entry-is c =
-    numbered-at (table-at c) (c .before .before .loop .i) (c .if1 .e) (here c)
+    unmarked-at (table-at c) (c .before .before .loop .i) (c .if1 .e) (here c)
     (λ w. (w .0 .taken, w .3)) (λ w. (w .0 .left, w .1 .taken, w .5)) (λ w. (w .1 .left, w .4)) (c .if1 .came)
 
 owner-is : (c : tie.Joined1 Inv-loop μ-loop) → c .if1 .s ≡ getD (allOwners (contentsIn (table-at c))) (c .before .before .loop .i) noSupplier
@@ -76,7 +76,7 @@ loop-again c =
     let turn = textOf (change (head .loop .force) s ++ (e ∷ [])) in (
       omega (arith, join .before .loop-test .taken),
       omega (arith, p .0, inv .1, size-more t i s (head .loop .force) e (here join) (inv .2) (owner-is join) (entry-is join)),
-      force-more t i s (here join) (owner-is join),
+      force-behind t i s (head .loop .force) e (here join) (inv .2) (owner-is join) (entry-is join),
       p .1 ∙ rw (inv .3, inv .1, text-more t i s (head .loop .force) e (here join) (inv .2) (owner-is join) (entry-is join))
           (from-front (start .args .out .now) (textTo t i) turn),
     )

@@ -13,11 +13,11 @@ use Rattle.table.proofs.steps.enter.Tie as tie
 abbrev found : tie.After-enum-told → Entry
 found c = c .enum-told .given .0 .0
 
-taken-here : (c : tie.After-enum-told) → let a = c .before .before .before .args in permitted (a .e) (a .good) (a .before) ≡ answered (found c)
+taken-here : (c : tie.After-enum-told) → let a = c .before .before .before .args in permitted (a .e) (a .well) (a .before) ≡ answered (found c)
 taken-here c = took _ (found c) (sym (c .before .before .permit .ensures) ∙ c .enum-told .given .1)
 
-allowed-here : (c : tie.After-enum-told) → let a = c .before .before .before .args in (a .e ≡ found c) × Allowed (a .good) (a .before) (a .e)
-allowed-here c = let a = c .before .before .before .args in allowed-if (a .e) (found c) (a .good) (a .before) (taken-here c)
+allowed-here : (c : tie.After-enum-told) → let a = c .before .before .before .args in (a .e ≡ found c) × Allowed (a .well) (a .before) (a .e)
+allowed-here c = let a = c .before .before .before .args in allowed-if (a .e) (found c) (a .well) (a .before) (taken-here c)
 
 one-more-requires : tie.Need-one-more-requires
 one-more-requires c κs = allowed-here c .1 .room
@@ -28,14 +28,14 @@ returns c =
     let told = c .before in
     let start = told .before .before .before .args in
     let one = allowed-here told in
-    let was : permitted (start .e) (start .good) (start .before) ≡ answered (start .e) = taken-here told ∙ ap answered (sym (one .0)) in
+    let was : permitted (start .e) (start .well) (start .before) ≡ answered (start .e) = taken-here told ∙ ap answered (sym (one .0)) in
     rw (was, c .one-more .ensures)
 
 returns-2 : tie.Need-returns-2
 unfolding shownEntered
 returns-2 c =
     let start = c .before .before .before .before .args in
-    rw (turned-away (permitted (start .e) (start .good) (start .before)) (c .before .step .given .0 .0)
+    rw (turned-away (permitted (start .e) (start .well) (start .before)) (c .before .step .given .0 .0)
     (sym (c .before .before .before .permit .ensures) ∙ c .before .step .given .1))
 
 pub enter-spec : {M : Type 1} → statement M

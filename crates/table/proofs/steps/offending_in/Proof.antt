@@ -8,13 +8,13 @@ use Rattle.table.proofs.steps.offending_in.Statement.{statement}
 use Rattle.table.proofs.steps.offending_in.Tie as tie
 
 -- whether the two numbers fit, as it was told
-first-told : (c : tie.After-named-at2) → let start = c .before .before .before .before .args in
+first-told : (c : tie.After-named-at2) → let start = c .before .before .before .args in
     c .before .named-at .result ≡ fits (start .e) (start .before) 0 (start .e .a)
-first-told c = let limits = c .before .before in rw (limits .limit-of .ensures, limits .before .form-of .ensures) at (c .before .named-at .ensures)
+first-told c = let limits = c .before .before in rw (limits .limit-of .ensures, limits .before .pre) at (c .before .named-at .ensures)
 
-second-told : (c : tie.After-named-at2) → let start = c .before .before .before .before .args in
+second-told : (c : tie.After-named-at2) → let start = c .before .before .before .args in
     c .named-at2 .result ≡ fits (start .e) (start .before) 1 (start .e .b)
-second-told c = let limits = c .before .before in rw (limits .limit-of .ensures, limits .before .form-of .ensures) at (c .named-at2 .ensures)
+second-told c = let limits = c .before .before in rw (limits .limit-of .ensures, limits .before .pre) at (c .named-at2 .ensures)
 
 returns : tie.Need-returns
 returns c =
@@ -41,7 +41,6 @@ pub offending-in-spec : {M : Type 1} → statement M
 offending-in-spec =
     tie.close
     (tie.spec
-    (λ c κs. search needs)
     (λ c κs. search needs)
     (λ c κs. search needs)
     (λ c κs. search needs)

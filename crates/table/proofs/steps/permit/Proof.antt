@@ -1,70 +1,64 @@
 -- That `steps::permit` (src/steps.rt) keeps its promise.
-use Rattle.entries.proofs.Saying.{unless-none, unless-some}
-use Rattle.kinds.specs.declared.Form.{Form}
-use Rattle.table.specs.declared.steps.Step.the-variants.{Bad}
+use Rattle.entries.proofs.Saying.{unless-none, unless-some, unless-twice}
 use Rattle.entries.specs.declared.Entry.{Entry}
 use Rattle.table.specs.declared.steps.Tally.{Tally}
-use Rattle.entries.specs.Said.{Said, refusal, unless}
-use Rattle.table.specs.Steps.{offending, misnamed, misnaming, ifIdle, permitted, shownStep}
+use Rattle.entries.specs.Said.{Said, unless, orElse}
+use Rattle.table.specs.Steps.{noRoom, offending, misnamed, misnaming, unlessPlaced, permitted, shownStep}
 use Rattle.table.proofs.Permission.{misnaming-some}
-use mathlib.Core.Path.{_≡_, refl, sym, ap, ap₂, _∙_}
-use mathlib.Core.Bool.{Bool, true, false, not}
-use Rattle.belnap.proofs.Finite.{never}
+use Prim.Native.Nat.{ℕ}
+use mathlib.Core.Path.{_≡_, sym, ap, _∙_}
+use mathlib.Core.Bool.{Bool}
 use borrow.Author.Needs.{needs}
 use Rattle.table.proofs.steps.permit.Statement.{statement}
 use Rattle.table.proofs.steps.permit.Tie as tie
 
--- what the test of a supplier tells
-told-false : (b : Bool) → not b ≡ true → b ≡ false
-told-false true h = never (sym h)
-told-false false h = refl
+-- what is said of an entry by its room and place, and then by its numbers
+abbrev numbers-said : Entry → Tally → Said Entry
+numbers-said e before = misnaming e (offending e before)
 
-told-true : (b : Bool) → not b ≡ false → b ≡ true
-told-true true h = refl
-told-true false h = never h
+abbrev first-said : Entry → Bool → Tally → ℕ
+first-said e well before = orElse (noRoom (e .kind) before) (unlessPlaced well)
 
--- what is said where there is room
-abbrev then-said : Entry → Bool → Tally → Said Entry
-then-said e good before = unless (ifIdle good) (misnaming e (offending e before))
+both-said : (e : Entry) (well : Bool) (before : Tally) → permitted e well before ≡ unless (first-said e well before) (numbers-said e before)
+unfolding permitted
+both-said e well before = unless-twice (noRoom (e .kind) before) (unlessPlaced well) (numbers-said e before)
 
 returns : tie.Need-returns
-unfolding permitted shownStep
+unfolding shownStep
 returns c =
     let start = c .before .before .before .args in
-    let full = c .before .before .no-room .ensures in
-    rw (unless-some _ (then-said (start .e) (start .good) (start .before)) (λ z. c .before .if1 .taken (full ∙ z)), ← full) (c .bad .ensures)
+    let out = c .before .before .out-of-place .ensures in
+    rw (
+      both-said (start .e) (start .well) (start .before),
+      unless-some _ (numbers-said (start .e) (start .before)) (λ z. c .before .if1 .taken (out ∙ z)),
+      ← out,
+    ) (c .bad .ensures)
+
+-- an entry that is in place: the first of its numbers that offends, if any
+offending-in-requires : tie.Need-offending-in-requires
+offending-in-requires c κs = c .form-of .ensures
+
+in-place : (c : tie.After-form-of) → let start = c .before .before .before .args in
+    permitted (start .e) (start .well) (start .before) ≡ numbers-said (start .e) (start .before)
+in-place c =
+    let start = c .before .before .before .args in
+    both-said (start .e) (start .well) (start .before)
+    ∙ unless-none _ (numbers-said (start .e) (start .before)) (sym (c .before .before .out-of-place .ensures) ∙ c .before .if1 .left)
 
 returns-2 : tie.Need-returns-2
-unfolding permitted shownStep
+unfolding shownStep
 returns-2 c =
-    let here = c .before .before in
-    let start = here .before .before .args in
-    let full = sym (here .before .no-room .ensures) ∙ here .if1 .left in
-    rw (unless-none _ (then-said (start .e) (start .good) (start .before)) full, told-false (start .good) (c .before .if2 .taken)) (c .bad2 .ensures)
+    let found = c .before .before .before in
+    let start = found .before .before .before .before .args in
+    let place = found .offending-in .ensures in
+    let number = c .before .misnamed-of .ensures ∙ ap (λ f. misnamed (f .names)) (found .before .form-of .ensures) in
+    rw (in-place (found .before), misnaming-some (start .e) _ (λ z. c .before .before .if2 .taken (place ∙ z)), ← place, ← number) (c .bad2 .ensures)
 
 returns-3 : tie.Need-returns-3
-unfolding permitted shownStep
+unfolding shownStep
 returns-3 c =
-    let found = c .before .before .before .before in
-    let here = found .before .before in
-    let start = here .before .before .args in
-    let full = sym (here .before .no-room .ensures) ∙ here .if1 .left in
-    let place = found .offending-in .ensures in
-    let number = c .before .misnamed-of .ensures ∙ ap (λ (form : Form). misnamed (form .names)) (c .before .before .form-of .ensures) in
-    rw (
-      unless-none _ (then-said (start .e) (start .good) (start .before)) full,
-      told-true (start .good) (found .before .if2 .left),
-      misnaming-some (start .e) _ (λ z. c .before .before .before .if3 .taken (place ∙ z)),
-    ) (c .bad3 .ensures ∙ ap Bad (ap₂ refusal number place))
-
-returns-4 : tie.Need-returns-4
-unfolding permitted shownStep
-returns-4 c =
     let found = c .before in
-    let here = found .before .before in
-    let full = sym (here .before .no-room .ensures) ∙ here .if1 .left in
-    let none = sym (found .offending-in .ensures) ∙ c .if3 .left in
-    rw (full, told-true (here .before .before .args .good) (found .before .if2 .left), none)
+    rw (in-place (found .before), ← found .offending-in .ensures, c .if2 .left)
 
 pub permit-spec : {M : Type 1} → statement M
 permit-spec =
@@ -74,10 +68,8 @@ permit-spec =
     (λ c κs. search needs)
     returns
     (λ c κs. search needs)
+    offending-in-requires
+    (λ c κs. search needs)
+    (λ c κs. search needs)
     returns-2
-    (λ c κs. search needs)
-    (λ c κs. search needs)
-    (λ c κs. search needs)
-    (λ c κs. search needs)
-    returns-3
-    returns-4)
+    returns-3)

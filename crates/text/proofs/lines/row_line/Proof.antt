@@ -1,7 +1,6 @@
 -- That `lines::row_line` (src/lines.rt) keeps its promise.
 use mathlib.Core.Path.{ap, _∙_}
 use mathlib.Core.List.{List}
-use native.Mathlib.Omega.{arith}
 use Prim.Native.Nat.{ℕ}
 use Rattle.kinds.specs.Kinds.{ofRow}
 use Rattle.kinds.specs.Words.{kindSpelled}
