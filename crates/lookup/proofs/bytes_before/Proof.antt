@@ -52,7 +52,8 @@ returns c =
     let rows = rw q at (inv .1) in
     let force = rw q at (inv .2) in
     let mark = c .change-size2 .ensures .0 ∙ ap (λ (f : ℕ). length (written (change f (getD (t .suppliers) row noSupplier)))) force in
-    (omega (arith, mark, rows, bytes-before (t .suppliers) (t .rows) (start .pre .2 ∙ sym (start .pre .1)) row), omega (arith, inv .3, c .change-size2 .ensures .1))
+    let before = bytes-before (t .suppliers) (t .rows) (start .pre .2 ∙ sym (start .pre .1)) row in
+    (omega (arith, mark, rows, before), omega (arith, inv .3, c .change-size2 .ensures .1))
 
 pub bytes-before-spec : {M : Type 1} → statement M
 bytes-before-spec =
