@@ -62,7 +62,8 @@ counts = refl
 -- "15, a 60 that repeats the supplier in force or is not followed by a row's kind byte, at the 60, after 2; a 60 after a question is 5"
 pub idle :
     Refuses (0x60 ∷ 0x05 ∷ constraints 1 []) idleSupplier 0 × Refuses (0x60 ∷ 0x05 ∷ 0x60 ∷ 0x06 ∷ 0x00 ∷ []) idleSupplier 0
-    × Refuses (0x60 ∷ 0x05 ∷ []) idleSupplier 0 × Refuses (0x60 ∷ 0x05 ∷ 0x40 ∷ []) idleSupplier 0 × Refuses (0x60 ∷ 0x05 ∷ 0x12 ∷ []) idleSupplier 0
+    × Refuses (0x60 ∷ 0x05 ∷ []) idleSupplier 0 × Refuses (0x60 ∷ 0x05 ∷ 0x40 ∷ []) idleSupplier 0
+    × Refuses (0x60 ∷ 0x05 ∷ 0x12 ∷ []) idleSupplier 0
     × Refuses (0x60 ∷ []) cutShort 0 × Refuses (0x00 ∷ 0x40 ∷ 0x00 ∷ 0x00 ∷ 0x60 ∷ []) outOfOrder 4
     × Refuses (0x60 ∷ 0x05 ∷ 0x20 ∷ []) cutShort 2 × Refuses (0x60 ∷ 0x00 ∷ 0x00 ∷ []) idleSupplier 0
     × Refuses (0x00 ∷ 0x60 ∷ 0x05 ∷ 0x00 ∷ 0x60 ∷ 0x05 ∷ 0x00 ∷ []) idleSupplier 4
