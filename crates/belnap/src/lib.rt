@@ -1,12 +1,14 @@
 // The four decisions of the rule desk, their two claims and their codes. What each claims is defined in specs/Decisions.antt.
 // The names of the two orders, and the meet, join and negation of each, stand in the modules below.
+#![tactic(auto)]
+
 pub mod lattice;
 pub mod orders;
 
 ghost use Rattle.std.specs.Prelude.{◌≡◌};
 ghost use Rattle.belnap.specs.Decisions.{grants, denies, claiming, code, coded};
 
-#[derive(Drop)]
+#[derive(Clone, Copy)]
 pub enum Decision {
     U,
     D,

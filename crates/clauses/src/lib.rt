@@ -1,4 +1,6 @@
 // The clauses that the entries of a table give to a solver: an entry has rules, and a rule its clauses (docs/SOLVERS.md).
+#![tactic(auto)]
+
 ghost use Rattle.std.specs.Prelude.{◌≡◌, [], ◌∷◌, ◌≤◌, ◌<◌, length, get_or};
 ghost use Rattle.clauses.specs.declared.Rule.TheVariants.{Same, And, AndOr, OrAndOr};
 ghost use Rattle.clauses.specs.Rules.{negated as negation, signed as signing, any_of, clauses_of, shown_clause, one_rules, overriding as overridden};
@@ -11,14 +13,14 @@ use kinds::{ConstraintKind, Kind, QuestionKind, RowKind};
 use operators::{OneRow, TwoRow};
 
 // A variable, or its negation.
-#[derive(Drop)]
+#[derive(Clone, Copy)]
 pub struct Literal {
     pub variable: usize,
     pub positive: bool,
 }
 
 // A row's two claims.
-#[derive(Drop)]
+#[derive(Clone, Copy)]
 pub struct Claims {
     pub grants: Literal,
     pub denies: Literal,
@@ -26,7 +28,7 @@ pub struct Claims {
 
 // What a literal is tied to: it is true; one of two is; and the first is true exactly if the second is, if the second and third are, if the second and one
 // of the others are, or if one of the second and third and one of the others are.
-#[derive(Drop)]
+#[derive(Clone, Copy)]
 pub enum Rule {
     Only(Literal),
     Either(Literal, Literal),
@@ -37,7 +39,7 @@ pub enum Rule {
 }
 
 // The rules of an entry.
-#[derive(Drop)]
+#[derive(Clone, Copy)]
 pub enum Rules {
     None,
     One(Rule),
@@ -45,7 +47,7 @@ pub enum Rules {
 }
 
 // A clause: its literals, one to three of them.
-#[derive(Drop)]
+#[derive(Clone, Copy)]
 pub struct Clause {
     pub length: usize,
     pub a: Literal,
@@ -54,7 +56,7 @@ pub struct Clause {
 }
 
 // The counts of a table that its variables go by.
-#[derive(Drop)]
+#[derive(Clone, Copy)]
 pub struct Layout {
     pub predicates: u32,
     pub rows: u32,

@@ -1,4 +1,6 @@
 // What the constraints of a table say of known facts.
+#![tactic(auto)]
+
 ghost use Rattle.std.specs.Prelude.{◌≡◌};
 ghost use Rattle.kinds.specs.Kinds.{as_constraint};
 ghost use Rattle.runs.specs.Flat.{kind_in, entries_in};
@@ -7,7 +9,7 @@ ghost use Rattle.constraints.specs.Constraints.{known_yes, stands_by, standing};
 use kinds::{ConstraintKind, Kind};
 
 // How known facts stand to constraints: they break one; they break none, but one waits for what is unknown; or neither.
-#[derive(Drop)]
+#[derive(Clone, Copy)]
 pub enum Standing {
     Broken,
     Waiting,

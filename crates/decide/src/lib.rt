@@ -1,4 +1,6 @@
 // What a row decides at a complete request.
+#![tactic(auto)]
+
 ghost use Rattle.std.specs.Prelude.{◌≡◌, ◌≤◌};
 ghost use Rattle.belnap.specs.declared.Decision.TheVariants.{U};
 ghost use Rattle.table.specs.Steps.{row_limit};

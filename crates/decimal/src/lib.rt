@@ -1,4 +1,6 @@
 // Numbers in decimal, written and read.
+#![tactic(auto)]
+
 ghost use Rattle.std.specs.Prelude.{◌≡◌, cond, true, ◌∷◌, [], ◌+◌, ◌-◌, ◌*◌, ◌≤◌, ◌<◌, length, ltb};
 ghost use Rattle.entries.specs.Entries.{number_limit};
 ghost use Rattle.decimal.specs.Decimal.{base, zero_digit, is_digit, decimal, unpadded, number_with, number_said};
@@ -49,7 +51,7 @@ pub fn decimal_size(n: usize) -> usize
 }
 
 // What a piece of a line is as a number: above 255, or spelled well or not; and its value, 0 where it is not spelled well.
-#[derive(Drop)]
+#[derive(Clone, Copy)]
 pub struct Number {
     pub large: bool,
     pub good: bool,

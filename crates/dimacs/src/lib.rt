@@ -1,4 +1,6 @@
 // A question's negation as a DIMACS CNF file, for a solver (docs/SOLVERS.md).
+#![tactic(auto)]
+
 ghost use Rattle.std.specs.Prelude.{◌≡◌, ◌∷◌, [], ◌+◌, ◌≤◌, length};
 ghost use Rattle.entries.specs.Said.{answered};
 ghost use Rattle.entries.specs.Output.{sent, shown_output, output_of, Sends};
@@ -17,7 +19,7 @@ use runs::Part;
 use table::{Outcome, Table};
 
 // How many clauses there are, and how many bytes they take.
-#[derive(Drop)]
+#[derive(Clone, Copy)]
 pub struct Extent {
     pub clauses: usize,
     pub bytes: usize,

@@ -1,4 +1,6 @@
 // One entry: its bytes, what it uses and names, and the entry written into the front of a lent output. The refusals stand in the module below.
+#![tactic(auto)]
+
 pub mod refusals;
 
 ghost use Rattle.std.specs.Prelude.{◌≡◌, cond, ltb, ◌≤◌, ◌<◌, min, max};
@@ -8,7 +10,7 @@ ghost use Rattle.entries.specs.Renaming.{names_row};
 use kinds::{Form, Kind, Names};
 
 // A row, a question, a constraint or a supplier: its kind, and its numbers; 0 for one that its kind has not.
-#[derive(Drop)]
+#[derive(Clone, Copy)]
 pub struct Entry {
     pub kind: Kind,
     pub a: u8,

@@ -33,7 +33,7 @@ pub const TOO_MANY_CONSTRAINTS: u8 = 14;
 pub const IDLE_SUPPLIER: u8 = 15;
 
 // A refusal: its number and its place.
-#[derive(Drop)]
+#[derive(Clone, Copy)]
 pub struct Refusal {
     pub number: u8,
     pub place: usize,
@@ -49,7 +49,7 @@ impl Refusal {
 }
 
 // How many bytes were written over the front of a lent output, or a refusal.
-#[derive(Drop)]
+#[derive(Clone, Copy)]
 pub enum Output {
     Written(usize),
     Refused(Refusal),

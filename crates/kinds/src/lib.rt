@@ -1,5 +1,7 @@
 // The table of kinds: what a kind byte announces, which byte announces a kind, and what a kind's body holds.
 // Reading, looking an entry up, writing and striking all go by it. Each kind's word stands in the module below.
+#![tactic(auto)]
+
 pub mod words;
 
 ghost use Rattle.std.specs.Prelude.{◌≡◌, ◌+◌, ◌≤◌, ◌<◌};
@@ -10,7 +12,7 @@ use belnap::orders::Order;
 use operators::{OneRow, TwoRow};
 
 // The kinds of a row.
-#[derive(Drop)]
+#[derive(Clone, Copy)]
 pub enum RowKind {
     Always(Decision),
     DenyIf,
@@ -20,7 +22,7 @@ pub enum RowKind {
 }
 
 // The kinds of a question.
-#[derive(Drop)]
+#[derive(Clone, Copy)]
 pub enum QuestionKind {
     Compare(Order),
     Not,
@@ -28,14 +30,14 @@ pub enum QuestionKind {
 }
 
 // The kinds of a constraint, which says what no request may bring.
-#[derive(Drop)]
+#[derive(Clone, Copy)]
 pub enum ConstraintKind {
     NeverBoth,
     OnlyIf,
 }
 
 // What an entry is. The last says whose the rows behind it are.
-#[derive(Drop)]
+#[derive(Clone, Copy)]
 pub enum Kind {
     Row(RowKind),
     Question(QuestionKind),
@@ -44,14 +46,14 @@ pub enum Kind {
 }
 
 // A kind byte is in the list, or it is not.
-#[derive(Drop)]
+#[derive(Clone, Copy)]
 pub enum Announced {
     Listed(Kind),
     Unlisted,
 }
 
 // What the numbers of a body name.
-#[derive(Drop)]
+#[derive(Clone, Copy)]
 pub enum Names {
     Nothing,
     Predicates,
@@ -61,7 +63,7 @@ pub enum Names {
 }
 
 // A line of the table of kinds: the byte that announces a kind, how many numbers its body has, and what they name.
-#[derive(Drop)]
+#[derive(Clone, Copy)]
 pub struct Form {
     pub byte: u8,
     pub numbers: usize,

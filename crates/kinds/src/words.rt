@@ -8,7 +8,7 @@ use belnap::orders::Order;
 use operators::{OneRow, TwoRow};
 
 // A word: its letters, eight to a number and two hexadecimal digits to a letter, zeros behind the last; and how many there are.
-#[derive(Drop)]
+#[derive(Clone, Copy)]
 pub struct Word {
     pub first: u64,
     pub second: u64,

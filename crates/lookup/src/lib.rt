@@ -1,4 +1,6 @@
 // One row out of a table's bytes: where it stands, the row's own part of the slice, and why there is none.
+#![tactic(auto)]
+
 ghost use Rattle.std.specs.Prelude.{◌≡◌, ◌+◌, ◌*◌, ◌≤◌, ◌<◌, length};
 ghost use Rattle.entries.specs.Entries.{size_limit, supplier_size};
 ghost use Rattle.entries.specs.Said.{why_of};
@@ -12,14 +14,14 @@ use kinds::{ConstraintKind, Kind};
 use table::{Outcome, Table, suppliers};
 
 // Where a part of a table starts, and how many bytes it has.
-#[derive(Drop)]
+#[derive(Clone, Copy)]
 pub struct Part {
     pub start: usize,
     pub length: usize,
 }
 
 // A row's own part of a table, or a refusal.
-#[derive(Drop)]
+#[derive(Clone, Copy)]
 pub enum Place {
     At(Part),
     Missing(Refusal),

@@ -1,6 +1,8 @@
 // Runs every case of the old desk's notebook (01) that is not marked P, through the services, and prints each with what came back;
 // then tables with a number that is not below its limit (02, L1), cases of a row against itself (by 02's L3), tables with
 // constraints (02, L5) and with suppliers (02, L6); then takes rows out of tables, each as a part of the table, or with the companion's refusal.
+#![tactic(auto)]
+
 use libc::STDOUT_FILENO;
 
 // Table A; question 2 asks if row 2 is free of conflict.

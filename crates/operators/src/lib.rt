@@ -1,5 +1,7 @@
 // The operators on decisions by name: those of the two orders (belnap::lattice) and the others, which stand here. Under its sentence of 01, each says what
 // its decision grants, and what it denies; an override takes one of its two decisions, by the claims of the first.
+#![tactic(auto)]
+
 ghost use Rattle.std.specs.Prelude.{◌≡◌};
 ghost use Rattle.belnap.specs.Decisions.{same};
 ghost use Rattle.operators.specs.Operators.{closed_default, open_default, implication as implied, guard as guarded, override, one, two};
@@ -7,7 +9,7 @@ ghost use Rattle.operators.specs.Operators.{closed_default, open_default, implic
 use belnap::{Decision, claiming, denies, grants, lattice};
 
 // The one-row operators by name.
-#[derive(Drop)]
+#[derive(Clone, Copy)]
 pub enum OneRow {
     Negation,
     Conflation,
@@ -16,7 +18,7 @@ pub enum OneRow {
 }
 
 // The two-row operators by name.
-#[derive(Drop)]
+#[derive(Clone, Copy)]
 pub enum TwoRow {
     TruthMeet,
     TruthJoin,

@@ -1,5 +1,7 @@
 // The services for the catalogue server: each takes a table's bytes, or a text, reads it first, and answers a struct of plain numbers.
 // `refusal` is 01's number, 0 for none, and `place` its place; a field that says nothing in a case is 0.
+#![tactic(auto)]
+
 ghost use Rattle.std.specs.Prelude.{◌≡◌, ◌≤◌, ◌^◌, leb};
 ghost use Rattle.pierstride.specs.Masks.{beyond, known_below, bad_masks};
 ghost use Rattle.entries.specs.Said.{refusing};
@@ -17,7 +19,7 @@ use walk::Reply;
 
 // How many rows and questions a table has, and n.
 #[repr(C)]
-#[derive(Drop)]
+#[derive(Clone, Copy)]
 pub struct Counts {
     pub refusal: u32,
     pub place: usize,
@@ -28,7 +30,7 @@ pub struct Counts {
 
 // The code of a row's decision.
 #[repr(C)]
-#[derive(Drop)]
+#[derive(Clone, Copy)]
 pub struct Decided {
     pub refusal: u32,
     pub place: usize,
@@ -37,7 +39,7 @@ pub struct Decided {
 
 // The mask of the decisions that remain possible for a row.
 #[repr(C)]
-#[derive(Drop)]
+#[derive(Clone, Copy)]
 pub struct Remaining {
     pub refusal: u32,
     pub place: usize,
@@ -53,7 +55,7 @@ pub const UNFINISHED: u32 = 3;
 
 // The reply to a question: it holds, it fails with the breaking request, or the walk is unfinished.
 #[repr(C)]
-#[derive(Drop)]
+#[derive(Clone, Copy)]
 pub struct Verdict {
     pub refusal: u32,
     pub place: usize,
@@ -64,7 +66,7 @@ pub struct Verdict {
 
 // Where a row's own bytes stand in the caller's table.
 #[repr(C)]
-#[derive(Drop)]
+#[derive(Clone, Copy)]
 pub struct Located {
     pub refusal: u32,
     pub place: usize,
@@ -74,7 +76,7 @@ pub struct Located {
 
 // How many bytes were written.
 #[repr(C)]
-#[derive(Drop)]
+#[derive(Clone, Copy)]
 pub struct Written {
     pub refusal: u32,
     pub place: usize,
@@ -83,7 +85,7 @@ pub struct Written {
 
 // Whether a request from outside keeps the constraints and breaks a question: 1 or 0.
 #[repr(C)]
-#[derive(Drop)]
+#[derive(Clone, Copy)]
 pub struct Judged {
     pub refusal: u32,
     pub place: usize,

@@ -1,4 +1,6 @@
 // Which decisions remain possible for a row where facts are missing.
+#![tactic(auto)]
+
 pub mod sets;
 mod tables;
 

@@ -1,5 +1,7 @@
 // A question's set of true and false, from the sets of rows, and how many rows it looks at.
 // A set of truths is a mask in which true counts 1 and false 2.
+#![tactic(auto)]
+
 mod tables;
 
 ghost use Rattle.std.specs.Prelude.{true, not, ◌&&◌, ◌≡◌, ◌≤◌, max};

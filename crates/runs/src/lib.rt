@@ -1,4 +1,6 @@
 // A table's entries as a run of numbers, three an entry: its kind byte and its two numbers. A slice of these can be lent to a loop.
+#![tactic(auto)]
+
 ghost use Rattle.std.specs.Prelude.{◌≡◌, ◌*◌, min};
 ghost use Rattle.table.specs.Steps.{row_limit};
 ghost use Rattle.table.specs.Reading.{padded, up_to};
@@ -14,7 +16,7 @@ pub const PER_ENTRY: usize = 3;
 pub const LONGEST: usize = PER_ENTRY * Table::ROWS;
 
 // The parts of a table.
-#[derive(Drop)]
+#[derive(Clone, Copy)]
 pub enum Part {
     Constraints,
     Rows,

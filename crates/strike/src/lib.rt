@@ -1,4 +1,6 @@
 // Striking a row: the table without it, written into a second lent buffer, or a refusal that changes nothing.
+#![tactic(auto)]
+
 ghost use Rattle.std.specs.Prelude.{◌≡◌, cond, ◌++◌, ◌+◌, ◌≤◌, ◌<◌, length, drop};
 ghost use Rattle.entries.specs.Output.{shown_output};
 ghost use Rattle.table.specs.Steps.{row_limit};

@@ -1,4 +1,6 @@
 // The suppliers of the rows that a row reaches.
+#![tactic(auto)]
+
 ghost use Rattle.std.specs.Prelude.{◌≡◌, ◌++◌, ◌≤◌, ◌<◌, length, drop};
 ghost use Rattle.entries.specs.Entries.{number_limit};
 ghost use Rattle.table.specs.Steps.{row_limit};

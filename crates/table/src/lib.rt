@@ -1,4 +1,6 @@
 // The table: its type and limits, and reading it from bytes.
+#![tactic(auto)]
+
 pub mod steps;
 pub mod suppliers;
 
@@ -14,7 +16,7 @@ use entries::refusals::Refusal;
 use kinds::{Kind, RowKind};
 
 // A table just read: its constraints, rows and questions in order, a supplier a row, how many there are of each, and 01's n.
-#[derive(Drop)]
+#[derive(Clone, Copy)]
 pub struct Table {
     pub constraints: [Entry; Table::CONSTRAINTS],
     pub rows: [Entry; Table::ROWS],
@@ -25,14 +27,14 @@ pub struct Table {
 }
 
 // Read, or refused.
-#[derive(Drop)]
+#[derive(Clone, Copy)]
 pub enum Outcome {
     Read,
     Refused,
 }
 
 // A table with an enum beside it, and the refusal, which is to be returned unchanged; its number is 0 where there is none.
-#[derive(Drop)]
+#[derive(Clone, Copy)]
 pub struct Reading {
     pub table: Table,
     pub outcome: Outcome,

@@ -12,7 +12,7 @@ use entries::{Entry, refusals};
 use kinds::{Announced, Form, Kind, Names};
 
 // So many constraints, rows and questions.
-#[derive(Drop)]
+#[derive(Clone, Copy)]
 pub struct Tally {
     pub constraints: usize,
     pub rows: usize,
@@ -20,7 +20,7 @@ pub struct Tally {
 }
 
 // What the bytes from a kind byte on are: of no listed kind, of a kind whose body is cut short, or an entry.
-#[derive(Drop)]
+#[derive(Clone, Copy)]
 pub enum Decoded {
     Unknown,
     Cut(Kind),
@@ -28,14 +28,14 @@ pub enum Decoded {
 }
 
 // What stands at a place: an entry, or a refusal whose place is counted from the kind byte.
-#[derive(Drop)]
+#[derive(Clone, Copy)]
 pub enum Step {
     Took(Entry),
     Bad(Refusal),
 }
 
 // The count with an entry more, or why it may not stand there.
-#[derive(Drop)]
+#[derive(Clone, Copy)]
 pub enum Entered {
     In(Tally),
     Out(Refusal),

@@ -1,4 +1,6 @@
 // The text of a table, one line an entry, that a survey office can read and send back; and the table that a text spells.
+#![tactic(auto)]
+
 pub mod lines;
 
 ghost use Rattle.std.specs.Prelude.{◌≡◌, ◌++◌, ◌+◌, ◌≤◌, length, drop, take};
@@ -96,7 +98,7 @@ const BYTES: usize = entries::LONGEST * (Table::CONSTRAINTS + (Table::ROWS + Tab
     + suppliers::SIZE * (Table::ROWS + 1);
 
 // The bytes of the table that a text spells, and how many they are; or the refusal, whose number is 0 where there is none.
-#[derive(Drop)]
+#[derive(Clone, Copy)]
 pub struct Gathered {
     pub bytes: [u8; BYTES],
     pub length: usize,

@@ -207,7 +207,7 @@ pub(crate) fn row_line(text: &[u8], at: usize) -> bool
 }
 
 // What is said of the line that begins at a place of a text, and where the next one begins.
-#[derive(Drop)]
+#[derive(Clone, Copy)]
 pub struct Line {
     pub said: Step,
     pub next: usize,

@@ -1,4 +1,6 @@
 // The program of document 01: reads a table from standard input and prints the verdict on each of its questions.
+#![tactic(auto)]
+
 use libc::STDOUT_FILENO;
 use pierstride::Verdict;
 

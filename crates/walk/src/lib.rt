@@ -1,4 +1,6 @@
 // The walk that answers a question, with a budget of visits.
+#![tactic(auto)]
+
 ghost use Rattle.std.specs.Prelude.{◌≡◌, ◌+◌, ◌-◌, ◌^◌, ◌≤◌, ◌<◌};
 ghost use Rattle.std.proofs.Math.Option.{none};
 ghost use Rattle.table.specs.Steps.{predicate_limit, question_limit};
@@ -11,7 +13,7 @@ use runs::Part;
 use table::Table;
 
 // What a visit sees: nothing breaks the question here, a breaking request is found, or neither yet.
-#[derive(Drop)]
+#[derive(Clone, Copy)]
 pub enum Look {
     Nothing,
     Found,
@@ -19,7 +21,7 @@ pub enum Look {
 }
 
 // Holds, with the count of visits; fails, with the breaking request and the count; unfinished, with the budget.
-#[derive(Drop)]
+#[derive(Clone, Copy)]
 pub enum Reply {
     Holds(u32),
     Fails(u32, u32),
