@@ -58,6 +58,7 @@ pub fn code_of(x: Decision) -> u8
 }
 
 // The decision with a code; a number that is no code reads as u.
+#[tactic(auto, unfolding(crate::specs::Decisions::coded))]
 pub fn decision_of(n: u8) -> Decision
     ensures { result ≡ coded n }
 {

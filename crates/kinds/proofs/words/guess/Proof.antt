@@ -8,28 +8,28 @@ use borrow.Author.Rules.{rules}
 use Rattle.kinds.proofs.words.guess.Statement.{statement}
 use Rattle.kinds.proofs.words.guess.Tie as tie
 
-cast-first : tie.Need-overflow-cast-first
-cast-first c = record { fits = omega (arith, c.shared-slice-known.given 0) }
+cast-first : tie.Need-overflow_cast-first
+cast-first c = record { fits = omega (arith, c.shared_slice_known-1.given 0) }
 
-cast-last : tie.Need-overflow-cast-last
-cast-last c = record { fits = omega (arith, c.shared-slice-known2.given (length c.before.before.args.w.now - 1)) }
+cast-last : tie.Need-overflow_cast-last
+cast-last c = record { fits = omega (arith, c.shared_slice_known-2-1.given (length c.args.w.now - 1)) }
 
-mul-i : tie.Need-overflow-mul-i
-mul-i c = record { fits = omega (arith, c.before.shared-slice-known.given 0) }
+mul-i : tie.Need-overflow_mul-i
+mul-i c = record { fits = omega (arith, c.shared_slice_known-1.given 0) }
 
-mul-i-2 : tie.Need-overflow-mul-i-2
-mul-i-2 c = record { fits = omega (arith, c.shared-slice-known2.given (length c.before.before.args.w.now - 1)) }
+mul-i-2 : tie.Need-overflow_mul-i-2
+mul-i-2 c = record { fits = omega (arith, c.shared_slice_known-2-1.given (length c.args.w.now - 1)) }
 
-add-i : tie.Need-overflow-add-i
-add-i c = record { fits = omega (arith, c.before.shared-slice-known.given 0, c.shared-slice-known2.given (length c.before.before.args.w.now - 1)) }
+add-i : tie.Need-overflow_add-i
+add-i c = record { fits = omega (arith, c.shared_slice_known-1.given 0, c.shared_slice_known-2-1.given (length c.args.w.now - 1)) }
 
-add-i-2 : tie.Need-overflow-add-i-2
+add-i-2 : tie.Need-overflow_add-i-2
 add-i-2 c = record {
   fits = omega (
     arith,
-    c.before.shared-slice-known.given 0,
-    c.shared-slice-known2.given (length
-        c.before.before.args.w.now - 1),
+    c.shared_slice_known-1.given 0,
+    c.shared_slice_known-2-1.given (length
+        c.args.w.now - 1),
   );
 }
 
@@ -37,8 +37,8 @@ returns : tie.Need-returns
 unfolding word_of
 returns c kind is = rw is (guessed kind)
 
-pub guess-spec : {M : Type 1} → statement M
-guess-spec =
+pub guess_spec : {M : Type 1} → statement M
+guess_spec =
     tie.close
     (tie.spec
     (λ c. search rules)

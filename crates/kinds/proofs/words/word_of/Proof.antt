@@ -4,21 +4,21 @@ use borrow.Author.Rules.{rules}
 use Rattle.kinds.proofs.words.word_of.Statement.{statement}
 use Rattle.kinds.proofs.words.word_of.Tie as tie
 
-returns : tie.Need-returns
-returns c = rw c.before.before.kind.given.1 c.word-of-row.ensures
+returns : tie.Need-returns-in-Row
+returns c = rw c.in-Row.is c.word_of_row.ensures
 
-returns_2 : tie.Need-returns-2
-returns_2 c = rw c.before.before.kind2.given.1 c.word-of-question.ensures
+returns_2 : tie.Need-returns-in-Question
+returns_2 c = rw c.in-Question.is c.word_of_question.ensures
 
-returns_3 : tie.Need-returns-3
-returns_3 c = rw c.before.before.kind3.given.1 c.word-of-constraint.ensures
+returns_3 : tie.Need-returns-in-Constraint
+returns_3 c = rw c.in-Constraint.is c.word_of_constraint.ensures
 
-returns_4 : tie.Need-returns-4
+returns_4 : tie.Need-returns-in-Supplier
 unfolding shown_word word_of
-returns_4 c = rw c.before.enum_told.given.1 c.lettered.ensures
+returns_4 c = rw c.in-Supplier.is c.lettered.ensures
 
-pub word-of-spec : {M : Type 1} → statement M
-word-of-spec =
+pub word_of_spec : {M : Type 1} → statement M
+word_of_spec =
     tie.close
     (tie.spec
     (λ c. search rules)

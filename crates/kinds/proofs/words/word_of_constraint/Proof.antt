@@ -4,15 +4,15 @@ use borrow.Author.Rules.{rules}
 use Rattle.kinds.proofs.words.word_of_constraint.Statement.{statement}
 use Rattle.kinds.proofs.words.word_of_constraint.Tie as tie
 
-returns : tie.Need-returns
+returns : tie.Need-returns-in-NeverBoth
 unfolding shown_word word_of
-returns c = rw c.before.enum_told.given.1 c.lettered.ensures
+returns c = rw c.in-NeverBoth.is c.lettered.ensures
 
-returns_2 : tie.Need-returns-2
+returns_2 : tie.Need-returns-in-OnlyIf
 unfolding shown_word word_of
-returns_2 c = rw c.before.enum-told2.given.1 c.lettered2.ensures
+returns_2 c = rw c.in-OnlyIf.is c.lettered-in-OnlyIf.ensures
 
-pub word-of-constraint-spec : {M : Type 1} → statement M
-word-of-constraint-spec =
+pub word_of_constraint_spec : {M : Type 1} → statement M
+word_of_constraint_spec =
     tie.close
     (tie.spec (λ c. search rules) (λ c κs. search rules) (λ c. search rules) (λ c κs. search rules) returns returns_2)

@@ -4,24 +4,24 @@ use borrow.Author.Rules.{rules}
 use Rattle.kinds.proofs.words.word_of_decision.Statement.{statement}
 use Rattle.kinds.proofs.words.word_of_decision.Tie as tie
 
-returns : tie.Need-returns
+returns : tie.Need-returns-in-U
 unfolding shown_word word_of
-returns c = rw c.before.enum_told.given.1 c.lettered.ensures
+returns c = rw c.in-U.is c.lettered.ensures
 
-returns_2 : tie.Need-returns-2
+returns_2 : tie.Need-returns-in-D
 unfolding shown_word word_of
-returns_2 c = rw c.before.enum-told2.given.1 c.lettered2.ensures
+returns_2 c = rw c.in-D.is c.lettered-in-D.ensures
 
-returns_3 : tie.Need-returns-3
+returns_3 : tie.Need-returns-in-G
 unfolding shown_word word_of
-returns_3 c = rw c.before.enum-told3.given.1 c.lettered3.ensures
+returns_3 c = rw c.in-G.is c.lettered-in-G.ensures
 
-returns_4 : tie.Need-returns-4
+returns_4 : tie.Need-returns-in-C
 unfolding shown_word word_of
-returns_4 c = rw c.before.enum-told4.given.1 c.lettered4.ensures
+returns_4 c = rw c.in-C.is c.lettered-in-C.ensures
 
-pub word-of-decision-spec : {M : Type 1} → statement M
-word-of-decision-spec =
+pub word_of_decision_spec : {M : Type 1} → statement M
+word_of_decision_spec =
     tie.close
     (tie.spec
     (λ c. search rules)

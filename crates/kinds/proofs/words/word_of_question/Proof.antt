@@ -4,19 +4,19 @@ use borrow.Author.Rules.{rules}
 use Rattle.kinds.proofs.words.word_of_question.Statement.{statement}
 use Rattle.kinds.proofs.words.word_of_question.Tie as tie
 
-returns : tie.Need-returns
-returns c = rw c.before.before.kind.given.1 c.word-of-order.ensures
+returns : tie.Need-returns-in-Compare
+returns c = rw c.in-Compare.is c.word_of_order.ensures
 
-returns_2 : tie.Need-returns-2
+returns_2 : tie.Need-returns-in-Not
 unfolding shown_word word_of
-returns_2 c = rw c.before.enum_told.given.1 c.lettered.ensures
+returns_2 c = rw c.in-Not.is c.lettered.ensures
 
-returns_3 : tie.Need-returns-3
+returns_3 : tie.Need-returns-in-Both
 unfolding shown_word word_of
-returns_3 c = rw c.before.enum-told2.given.1 c.lettered2.ensures
+returns_3 c = rw c.in-Both.is c.lettered-in-Both.ensures
 
-pub word-of-question-spec : {M : Type 1} → statement M
-word-of-question-spec =
+pub word_of_question_spec : {M : Type 1} → statement M
+word_of_question_spec =
     tie.close
     (tie.spec
     (λ c. search rules)

@@ -4,25 +4,25 @@ use borrow.Author.Rules.{rules}
 use Rattle.kinds.proofs.words.word_of_row.Statement.{statement}
 use Rattle.kinds.proofs.words.word_of_row.Tie as tie
 
-returns : tie.Need-returns
-returns c = rw c.before.before.kind.given.1 c.word-of-decision.ensures
+returns : tie.Need-returns-in-Always
+returns c = rw c.in-Always.is c.word_of_decision.ensures
 
-returns_2 : tie.Need-returns-2
+returns_2 : tie.Need-returns-in-DenyIf
 unfolding shown_word word_of
-returns_2 c = rw c.before.enum_told.given.1 c.lettered.ensures
+returns_2 c = rw c.in-DenyIf.is c.lettered.ensures
 
-returns_3 : tie.Need-returns-3
+returns_3 : tie.Need-returns-in-GrantIf
 unfolding shown_word word_of
-returns_3 c = rw c.before.enum-told2.given.1 c.lettered2.ensures
+returns_3 c = rw c.in-GrantIf.is c.lettered-in-GrantIf.ensures
 
-returns_4 : tie.Need-returns-4
-returns_4 c = rw c.before.before.kind2.given.1 c.word-of-one.ensures
+returns_4 : tie.Need-returns-in-One
+returns_4 c = rw c.in-One.is c.word_of_one.ensures
 
-returns_5 : tie.Need-returns-5
-returns_5 c = rw c.before.before.kind3.given.1 c.word-of-two.ensures
+returns_5 : tie.Need-returns-in-Two
+returns_5 c = rw c.in-Two.is c.word_of_two.ensures
 
-pub word-of-row-spec : {M : Type 1} → statement M
-word-of-row-spec =
+pub word_of_row_spec : {M : Type 1} → statement M
+word_of_row_spec =
     tie.close
     (tie.spec
     (λ c. search rules)

@@ -4,48 +4,48 @@ use borrow.Author.Rules.{rules}
 use Rattle.kinds.proofs.words.word_of_two.Statement.{statement}
 use Rattle.kinds.proofs.words.word_of_two.Tie as tie
 
-returns : tie.Need-returns
+returns : tie.Need-returns-in-TruthMeet
 unfolding shown_word word_of
-returns c = rw c.before.enum_told.given.1 c.lettered.ensures
+returns c = rw c.in-TruthMeet.is c.lettered.ensures
 
-returns_2 : tie.Need-returns-2
+returns_2 : tie.Need-returns-in-TruthJoin
 unfolding shown_word word_of
-returns_2 c = rw c.before.enum-told2.given.1 c.lettered2.ensures
+returns_2 c = rw c.in-TruthJoin.is c.lettered-in-TruthJoin.ensures
 
-returns_3 : tie.Need-returns-3
+returns_3 : tie.Need-returns-in-KnowledgeMeet
 unfolding shown_word word_of
-returns_3 c = rw c.before.enum-told3.given.1 c.lettered3.ensures
+returns_3 c = rw c.in-KnowledgeMeet.is c.lettered-in-KnowledgeMeet.ensures
 
-returns_4 : tie.Need-returns-4
+returns_4 : tie.Need-returns-in-KnowledgeJoin
 unfolding shown_word word_of
-returns_4 c = rw c.before.enum-told4.given.1 c.lettered4.ensures
+returns_4 c = rw c.in-KnowledgeJoin.is c.lettered-in-KnowledgeJoin.ensures
 
-returns_5 : tie.Need-returns-5
+returns_5 : tie.Need-returns-in-Implication
 unfolding shown_word word_of
-returns_5 c = rw c.before.enum-told5.given.1 c.lettered5.ensures
+returns_5 c = rw c.in-Implication.is c.lettered-in-Implication.ensures
 
-returns-6 : tie.Need-returns-6
+returns-6 : tie.Need-returns-in-Guard
 unfolding shown_word word_of
-returns-6 c = rw c.before.enum-told6.given.1 c.lettered6.ensures
+returns-6 c = rw c.in-Guard.is c.lettered-in-Guard.ensures
 
-returns-7 : tie.Need-returns-7
+returns-7 : tie.Need-returns-in-OverrideU
 unfolding shown_word word_of
-returns-7 c = rw c.before.enum-told7.given.1 c.lettered7.ensures
+returns-7 c = rw c.in-OverrideU.is c.lettered-in-OverrideU.ensures
 
-returns_8 : tie.Need-returns-8
+returns_8 : tie.Need-returns-in-OverrideD
 unfolding shown_word word_of
-returns_8 c = rw c.before.enum-told8.given.1 c.lettered8.ensures
+returns_8 c = rw c.in-OverrideD.is c.lettered-in-OverrideD.ensures
 
-returns_9 : tie.Need-returns-9
+returns_9 : tie.Need-returns-in-OverrideG
 unfolding shown_word word_of
-returns_9 c = rw c.before.enum-told9.given.1 c.lettered9.ensures
+returns_9 c = rw c.in-OverrideG.is c.lettered-in-OverrideG.ensures
 
-returns_10 : tie.Need-returns-10
+returns_10 : tie.Need-returns-in-OverrideC
 unfolding shown_word word_of
-returns_10 c = rw c.before.enum-told10.given.1 c.lettered10.ensures
+returns_10 c = rw c.in-OverrideC.is c.lettered-in-OverrideC.ensures
 
-pub word-of-two-spec : {M : Type 1} → statement M
-word-of-two-spec =
+pub word_of_two_spec : {M : Type 1} → statement M
+word_of_two_spec =
     tie.close
     (tie.spec
     (λ c. search rules)
