@@ -1,7 +1,7 @@
 -- What it is for a promise to leave one answer, and one content for a lent output (01, "What our promises must say": "two answers which both satisfy it
 -- are equal"). A promise is a function's own `Post`: of lifetimes, the arguments, the answer, and the arguments as they are at exit.
 use Rattle.std.specs.Prelude.{◌≡◌, List, ℕ}
-use Rattle.std.specs.Borrow.{Bor}
+use Rattle.std.specs.Borrow.{Bor, MutBor}
 
 -- one answer, whatever the arguments
 abbrev pub One : {K : Type 0} {X A E : K → Type 0} → ((κs : K) → X κs → A κs → E κs → Type 0) → Type 0
@@ -9,7 +9,7 @@ One {K} {X} {A} {E} P = (κs : K) (args : X κs) (exit : E κs) (a b : A κs) �
 
 -- one answer and one content for the output, which is found among the arguments at exit
 abbrev pub OneOutput : {K : Type 0} {X A E : K → Type 0} → ((κs : K) → X κs → A κs → E κs → Type 0) →
-    ((κs : K) → E κs → Bor (List ℕ)) → Type 0
+    ((κs : K) → E κs → MutBor (List ℕ)) → Type 0
 OneOutput {K} {X} {A} {E} P out =
     (κs : K) (args : X κs) (e f : E κs) (a b : A κs) → P κs args a e → P κs args b f → (a ≡ b) × ((out κs e).now ≡ (out κs f).now)
 

@@ -7,49 +7,49 @@ use Rattle.kinds.specs.declared.Form.{Form}
 use Rattle.entries.proofs.OneEntry.{size, too_short_lem, put_all}
 use borrow.Author.Rules.{rules}
 use Rattle.entries.proofs.put.Statement.{statement}
+use Rattle.entries.proofs.put.Lts.{then-numbers-gt0, else-numbers-gt0, then-numbers-gt1, else-numbers-gt1}
 use Rattle.entries.proofs.put.Tie as tie
 
-returns : tie.Need-returns
+returns : tie.Need-returns-then-out-size
 returns c =
-    let start = c.before.before.before.before.args in
-    let n = c.before.body-size.ensures.0 in
-    (rw (size start.e) (omega (arith, n)), too_short_lem start.e start.out.now (rw n at c.if1.true))
+    let start = c.args in
+    let n = c.body_size-size.ensures.0 in
+    (rw (size start.e) (omega (arith, n)), too_short_lem start.e start.out.now (rw n at c.if-out-size.true))
 
-slice-write-out-2 : tie.Need-slice-write-out-2
+slice-write-out-2 : tie.Need-bounds-out-1
 slice-write-out-2 c =
     let long = c.before in
-    simp length-set (omega (arith, ap (λ (f : Form). f.numbers) long.before.before.form_of.ensures, long.before.body-size.ensures.0))
+    simp length-set (omega (arith, ap (λ (f : Form). f.numbers) long.form_of-form.ensures, long.body_size-size.ensures.0))
 
-slice-write-out-3 : tie.Need-slice-write-out-3
+slice-write-out-3 : tie.Need-bounds-out-2
 slice-write-out-3 c =
     let long = c.before.before in
-    let n = ap (λ (f : Form). f.numbers) long.before.before.form_of.ensures in
-    let size = long.before.body-size.ensures.0 in
-    ⊎_elim (λ w. omega (arith, n, size, simp length-set at (ap length w.1))) (λ w. omega (arith, n, size, simp length-set at (ap length w.1)))
-    c.before.if2.branch
+    let n = ap (λ (f : Form). f.numbers) long.form_of-form.ensures in
+    let size = long.body_size-size.ensures.0 in
+    elim c.if-numbers-gt0.branch [ then-numbers-gt0 w ↦ omega (arith, n, size, simp length-set at (ap length w.out-is)) | else-numbers-gt0 w ↦ omega (arith, n, size, simp length-set at (ap length w.out-is)) ]
 
-same_length : tie.Need-same-length
+same_length : tie.Need-shape_of-out
 same_length c =
-    let start = c.before.before.before.before.before.before.args in
-    let one : length c.before.if2.out ≡ length start.out.now =
-    ⊎_elim (λ w. ap length w.1 ∙ simp length-set) (λ w. ap length w.1 ∙ simp length-set) c.before.if2.branch in
-    ⊎_elim (λ w. ap length w.1 ∙ simp length-set one) (λ w. ap length w.1 ∙ one) c.if3.branch
+    let start = c.args in
+    let one : length c.if-numbers-gt0.out ≡ length start.out.now =
+    elim c.if-numbers-gt0.branch [ then-numbers-gt0 w ↦ ap length w.out-is ∙ simp length-set | else-numbers-gt0 w ↦ ap length w.out-is ∙ simp length-set ] in
+    elim c.if-numbers-gt1.branch [ then-numbers-gt1 w ↦ ap length w.out-is ∙ simp length-set one | else-numbers-gt1 w ↦ ap length w.out-is ∙ one ]
 
-returns_2 : tie.Need-returns-2
+returns_2 : tie.Need-returns
 returns_2 c =
     let long = c.before.before in
-    let start = long.before.before.before.before.args in
-    let form = long.before.before.form_of.ensures in
+    let start = long.args in
+    let form = long.form_of-form.ensures in
     let n = ap (λ (f : Form). f.numbers) form in
-    let m = long.before.body-size.ensures.0 in
-    let one = c.before.if2 in
-    let two = c.if3 in (
+    let m = long.body_size-size.ensures.0 in
+    let one = c.if-numbers-gt0 in
+    let two = c.if-numbers-gt1 in (
       rw (size start.e) (omega (arith, m)),
-      put_all start.e start.out.now one.out two.out (rw m at long.if1.false)
-          (λ h. ⊎_elim (λ w. w.1 ∙ rw form) (λ w. absurd (omega (arith, n))) one.branch)
-          (λ h. ⊎_elim (λ w. absurd (omega (arith, n))) (λ w. w.1 ∙ rw form) one.branch)
-          (λ h. ⊎_elim (λ w. w.1) (λ w. absurd (omega (arith, n))) two.branch)
-          (λ h. ⊎_elim (λ w. absurd (omega (arith, n))) (λ w. w.1) two.branch),
+      put_all start.e start.out.now one.out two.out (rw m at long.if-out-size.false)
+          (λ h. elim one.branch [ then-numbers-gt0 w ↦ w.out-is ∙ rw form | else-numbers-gt0 w ↦ absurd (omega (arith, n)) ])
+          (λ h. elim one.branch [ then-numbers-gt0 w ↦ absurd (omega (arith, n)) | else-numbers-gt0 w ↦ w.out-is ∙ rw form ])
+          (λ h. elim two.branch [ then-numbers-gt1 w ↦ w.out-is | else-numbers-gt1 w ↦ absurd (omega (arith, n)) ])
+          (λ h. elim two.branch [ then-numbers-gt1 w ↦ absurd (omega (arith, n)) | else-numbers-gt1 w ↦ w.out-is ]),
     )
 
 pub put_spec : {M : Type 1} → statement M

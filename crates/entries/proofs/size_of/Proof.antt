@@ -6,10 +6,10 @@ use Rattle.entries.proofs.size_of.Statement.{statement}
 use Rattle.entries.proofs.size_of.Tie as tie
 
 returns : tie.Need-returns
-returns c = (rw (size c.before.args.e) (omega (arith, c.body-size.ensures.0)), omega (arith, c.body-size.ensures.1))
+returns c = (rw (size c.args.e) (omega (arith, c.body_size.ensures.0)), omega (arith, c.body_size.ensures.1))
 
-pub size-of-spec : {M : Type 1} → statement M
-size-of-spec =
+pub size_of_spec : {M : Type 1} → statement M
+size_of_spec =
     tie.close
     (tie.spec
     (λ c κs. search rules)
