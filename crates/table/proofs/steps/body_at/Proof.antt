@@ -10,32 +10,32 @@ use borrow.Author.Rules.{rules}
 use Rattle.table.proofs.steps.body_at.Statement.{statement}
 use Rattle.table.proofs.steps.body_at.Tie as tie
 
-returns : tie.Need-returns
+returns : tie.Need-returns-then-s-at
 returns c =
-    let start = c.before.before.before.before.args in
-    let cut : length (drop (start.at + 1) start.s.now) < body_size start.kind = rw (length-drop, ← c.before.body-size.ensures.0) (omega arith) in
+    let start = c.args in
+    let cut : length (drop (start.at + 1) start.s.now) < body_size start.kind = rw (length-drop, ← c.body_size.ensures.0) (omega arith) in
     sym (body_cut start.kind (drop (start.at + 1) start.s.now) cut)
 
-number-at-requires : tie.Need-number-at-requires
+number-at-requires : tie.Need-number_at-a-requires
 number-at-requires c κs =
-    let n = ap (λ (f : Form). f.numbers) c.before.before.form_of.ensures in (omega (arith, n, c.before.body-size.ensures.0), omega arith)
+    let n = ap (λ (f : Form). f.numbers) c.form_of-form.ensures in (omega (arith, n, c.body_size.ensures.0), omega arith)
 
-number-at-requires-2 : tie.Need-number-at-requires-2
+number-at-requires-2 : tie.Need-number_at-b-requires
 number-at-requires-2 c κs =
-    let n = ap (λ (f : Form). f.numbers) c.before.before.before.form_of.ensures
-    in (omega (arith, n, c.before.before.body-size.ensures.0), omega arith)
+    let n = ap (λ (f : Form). f.numbers) c.form_of-form.ensures
+    in (omega (arith, n, c.body_size.ensures.0), omega arith)
 
-returns_2 : tie.Need-returns-2
+returns_2 : tie.Need-returns
 returns_2 c =
     let sized = c.before.before.before in
     let told = sized.before in
-    let start = told.before.before.args in
-    let whole : body_size start.kind ≤ length (drop (start.at + 1) start.s.now) = rw (length-drop, ← sized.body-size.ensures.0) (omega arith) in
-    rw (c.before.number_at.ensures, c.number-at2.ensures, told.form_of.ensures)
+    let start = told.args in
+    let whole : body_size start.kind ≤ length (drop (start.at + 1) start.s.now) = rw (length-drop, ← sized.body_size.ensures.0) (omega arith) in
+    rw (c.number_at-a.ensures, c.number_at-b.ensures, told.form_of-form.ensures)
     (sym (body_whole start.kind (drop (start.at + 1) start.s.now) whole))
 
-pub body-at-spec : {M : Type 1} → statement M
-body-at-spec =
+pub body_at_spec : {M : Type 1} → statement M
+body_at_spec =
     tie.close
     (tie.spec
     (λ c κs. search rules)

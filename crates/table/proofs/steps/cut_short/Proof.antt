@@ -8,20 +8,20 @@ use borrow.Author.Rules.{rules}
 use Rattle.table.proofs.steps.cut_short.Statement.{statement}
 use Rattle.table.proofs.steps.cut_short.Tie as tie
 
-returns : tie.Need-returns
+returns : tie.Need-returns-then-full-ne0
 unfolding shown_step
 returns c =
-    let full = c.before.before.no_room.ensures in
-    rw (unless_some _ (refusing (refusal cut_short 0)) (λ z. c.before.if1.true (full ∙ z)), ← full) c.bad.ensures
+    let full = c.no_room-full.ensures in
+    rw (unless_some _ (refusing (refusal cut_short 0)) (λ z. c.if-full-ne0.true (full ∙ z)), ← full) c.bad.ensures
 
-returns_2 : tie.Need-returns-2
+returns_2 : tie.Need-returns
 unfolding shown_step
 returns_2 c =
-    let full = sym c.before.before.no_room.ensures ∙ c.before.if1.false in
-    rw full c.bad2.ensures
+    let full = sym c.no_room-full.ensures ∙ c.if-full-ne0.false in
+    rw full c.bad-2.ensures
 
-pub cut-short-spec : {M : Type 1} → statement M
-cut-short-spec =
+pub cut_short_spec : {M : Type 1} → statement M
+cut_short_spec =
     tie.close
     (tie.spec
     (λ c κs. search rules)

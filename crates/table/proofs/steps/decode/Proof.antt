@@ -4,16 +4,16 @@ use borrow.Author.Rules.{rules}
 use Rattle.table.proofs.steps.decode.Statement.{statement}
 use Rattle.table.proofs.steps.decode.Tie as tie
 
-returns : tie.Need-returns
+returns : tie.Need-returns-in-Listed
 unfolding decoded
-returns c = rw (← c.before.before.before.before.kind-of.ensures, c.before.before.announced.given.1) c.body_at.ensures
+returns c = rw (← c.kind_of-announced.ensures, c.in-Listed.is) c.body_at.ensures
 
-returns_2 : tie.Need-returns-2
+returns_2 : tie.Need-returns-in-Unlisted
 unfolding decoded
-returns_2 c = rw (← c.before.before.kind-of.ensures, c.enum_told.given.1)
+returns_2 c = rw (← c.kind_of-announced.ensures, c.in-Unlisted.is)
 
-pub decode-spec : {M : Type 1} → statement M
-decode-spec =
+pub decode_spec : {M : Type 1} → statement M
+decode_spec =
     tie.close
     (tie.spec
     (λ c. search rules)

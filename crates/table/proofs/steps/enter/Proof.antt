@@ -10,33 +10,33 @@ use Rattle.table.proofs.steps.enter.Statement.{statement}
 use Rattle.table.proofs.steps.enter.Tie as tie
 
 -- an entry that is permitted: it is the one that came, and it is allowed
-abbrev found : tie.After-enum-told → Entry
-found c = c.enum_told.given.0.0
+abbrev found : tie.In-Took → Entry
+found c = c.in-Took.field-0
 
-taken_here : (c : tie.After-enum-told) → let a = c.before.before.before.args in permitted a.e a.well a.before ≡ answered (found c)
-taken_here c = took _ (found c) (sym c.before.before.permit.ensures ∙ c.enum_told.given.1)
+taken_here : (c : tie.In-Took) → let a = c.args in permitted a.e a.well a.before ≡ answered (found c)
+taken_here c = took _ (found c) (sym c.permit-step.ensures ∙ c.in-Took.is)
 
-allowed_here : (c : tie.After-enum-told) → let a = c.before.before.before.args in (a.e ≡ found c) × Allowed a.well a.before a.e
-allowed_here c = let a = c.before.before.before.args in allowed_if a.e (found c) a.well a.before (taken_here c)
+allowed_here : (c : tie.In-Took) → let a = c.args in (a.e ≡ found c) × Allowed a.well a.before a.e
+allowed_here c = let a = c.args in allowed_if a.e (found c) a.well a.before (taken_here c)
 
-one-more-requires : tie.Need-one-more-requires
+one-more-requires : tie.Need-one_more-requires
 one-more-requires c κs = (allowed_here c).1.room
 
-returns : tie.Need-returns
+returns : tie.Need-returns-in-Took
 unfolding shown_entered
 returns c =
     let told = c.before in
-    let start = told.before.before.before.args in
+    let start = told.args in
     let one = allowed_here told in
     let was : permitted start.e start.well start.before ≡ answered start.e = taken_here told ∙ ap answered (sym one.0) in
     rw (was, c.one_more.ensures)
 
-returns_2 : tie.Need-returns-2
+returns_2 : tie.Need-returns-in-Bad
 unfolding shown_entered
 returns_2 c =
-    let start = c.before.before.before.before.args in
-    rw (turned_away (permitted start.e start.well start.before) c.before.step.given.0.0
-    (sym c.before.before.before.permit.ensures ∙ c.before.step.given.1))
+    let start = c.args in
+    rw (turned_away (permitted start.e start.well start.before) c.in-Bad.why
+    (sym c.permit-step.ensures ∙ c.in-Bad.is))
 
 pub enter_spec : {M : Type 1} → statement M
 enter_spec =

@@ -1,31 +1,32 @@
 -- That `steps::no_room` (src/steps.rt) keeps its promise.
 use Rattle.table.specs.Steps.{no_room}
+use Rattle.std.proofs.lemmas.Bool.{lt-ltb, le-ltb}
 use borrow.Author.Rules.{rules}
 use Rattle.table.proofs.steps.no_room.Statement.{statement}
 use Rattle.table.proofs.steps.no_room.Tie as tie
 
-returns : tie.Need-returns
+returns : tie.Need-returns-in-Row
 unfolding no_room
-returns c = rw c.before.enum_told.given.1 c.room_by.ensures
+returns c = rw c.in-Row.is c.room_by.ensures
 
-returns_2 : tie.Need-returns-2
+returns_2 : tie.Need-returns-in-Question
 unfolding no_room
-returns_2 c = rw c.before.enum-told2.given.1 c.room-by2.ensures
+returns_2 c = rw c.in-Question.is c.room_by-in-Question.ensures
 
-returns_3 : tie.Need-returns-3
+returns_3 : tie.Need-returns-in-Constraint
 unfolding no_room
-returns_3 c = rw c.before.enum-told3.given.1 c.room-by3.ensures
+returns_3 c = rw c.in-Constraint.is c.room_by-in-Constraint.ensures
 
-returns_4 : tie.Need-returns-4
+returns_4 : tie.Need-returns-then-asked
 unfolding no_room
-returns_4 c = rw (c.before.enum-told4.given.1, c.if1.true)
+returns_4 c = rw (c.in-Supplier.is, lt-ltb _ _ c.if-asked.true)
 
-returns_5 : tie.Need-returns-5
+returns_5 : tie.Need-returns-else-asked
 unfolding no_room
-returns_5 c = rw (c.before.enum-told4.given.1, c.if1.false)
+returns_5 c = rw (c.in-Supplier.is, le-ltb _ _ c.if-asked.false)
 
-pub no-room-spec : {M : Type 1} → statement M
-no-room-spec =
+pub no_room_spec : {M : Type 1} → statement M
+no_room_spec =
     tie.close
     (tie.spec
     (λ c. search rules)

@@ -8,37 +8,37 @@ use Rattle.table.proofs.steps.offending_in.Statement.{statement}
 use Rattle.table.proofs.steps.offending_in.Tie as tie
 
 -- whether the two numbers fit, as it was told
-first_told : (c : tie.After-named-at2) → let start = c.before.before.before.args in
-    c.before.named-at.result ≡ fits start.e start.before 0 start.e.a
-first_told c = let limits = c.before.before in rw (limits.limit-of.ensures, limits.before.requires) at c.before.named-at.ensures
+first_told : (c : tie.After-named_at-second) → let start = c.args in
+    c.named_at-first.result ≡ fits start.e start.before 0 start.e.a
+first_told c = let limits = c.before.before in rw (limits.limit_of-below.ensures, limits.requires) at c.named_at-first.ensures
 
-second_told : (c : tie.After-named-at2) → let start = c.before.before.before.args in
-    c.named-at2.result ≡ fits start.e start.before 1 start.e.b
-second_told c = let limits = c.before.before in rw (limits.limit-of.ensures, limits.before.requires) at c.named-at2.ensures
+second_told : (c : tie.After-named_at-second) → let start = c.args in
+    c.named_at-second.result ≡ fits start.e start.before 1 start.e.b
+second_told c = let limits = c.before.before in rw (limits.limit_of-below.ensures, limits.requires) at c.named_at-second.ensures
 
-returns : tie.Need-returns
+returns : tie.Need-returns-then-first-second
 returns c =
     let told = c.before in
-    let both = both_parts told.before.named-at.result told.named-at2.result c.if1.true in
-    offending_by _ _ told.before.named-at.result told.named-at2.result 0 (first_told told) (second_told told)
+    let both = both_parts told.named_at-first.result told.named_at-second.result c.if-first-second.true in
+    offending_by _ _ told.named_at-first.result told.named_at-second.result 0 (first_told told) (second_told told)
     (λ p q. refl) (λ p q. never (sym both.1 ∙ q)) (λ p. never (sym both.0 ∙ p))
 
-returns_2 : tie.Need-returns-2
+returns_2 : tie.Need-returns-then-first
 returns_2 c =
     let told = c.before.before.before in
-    let fit = sym c.before.if2.true in
-    offending_by _ _ told.before.named-at.result told.named-at2.result _ (first_told told) (second_told told)
-    (λ p q. never (sym (rw (p, q)) ∙ c.before.before.if1.false)) (λ p q. c.number-place.ensures) (λ p. never (fit ∙ p))
+    let fit = sym c.if-first.true in
+    offending_by _ _ told.named_at-first.result told.named_at-second.result _ (first_told told) (second_told told)
+    (λ p q. never (sym (rw (p, q)) ∙ c.if-first-second.false)) (λ p q. c.number_place.ensures) (λ p. never (fit ∙ p))
 
-returns_3 : tie.Need-returns-3
+returns_3 : tie.Need-returns-else-first
 returns_3 c =
     let told = c.before.before.before in
-    let unfit = c.before.if2.false in
-    offending_by _ _ told.before.named-at.result told.named-at2.result _ (first_told told) (second_told told)
-    (λ p q. never (sym p ∙ unfit)) (λ p q. never (sym p ∙ unfit)) (λ p. c.number-place2.ensures)
+    let unfit = c.if-first.false in
+    offending_by _ _ told.named_at-first.result told.named_at-second.result _ (first_told told) (second_told told)
+    (λ p q. never (sym p ∙ unfit)) (λ p q. never (sym p ∙ unfit)) (λ p. c.number_place-else-first.ensures)
 
-pub offending-in-spec : {M : Type 1} → statement M
-offending-in-spec =
+pub offending_in_spec : {M : Type 1} → statement M
+offending_in_spec =
     tie.close
     (tie.spec
     (λ c κs. search rules)

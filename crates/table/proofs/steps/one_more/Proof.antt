@@ -6,53 +6,53 @@ use borrow.Author.Rules.{rules}
 use Rattle.table.proofs.steps.one_more.Statement.{statement}
 use Rattle.table.proofs.steps.one_more.Tie as tie
 
-add-more : tie.Need-overflow-add-more
+add-more : tie.Need-overflow_add-more
 add-more c =
-    let start = c.before.before.before in
+    let start = c.before.before in
     record {
       fits = omega (
         arith,
-        (room_of (Row c.before.enum_told.given.0.0) start.args.before
-            (rw c.before.enum_told.given.1 at start.requires)).0,
+        (room_of (Row c.in-Row.field-0) start.args.before
+            (rw c.in-Row.is at start.requires)).0,
       );
     }
 
-add-more-2 : tie.Need-overflow-add-more-2
+add-more-2 : tie.Need-overflow_add-more-in-Question
 add-more-2 c =
-    let start = c.before.before.before in
+    let start = c.before.before in
     record {
       fits = omega (
         arith,
-        room_of (Question c.before.enum-told2.given.0.0) start.args.before
-            (rw c.before.enum-told2.given.1 at start.requires),
+        room_of (Question c.in-Question.field-0) start.args.before
+            (rw c.in-Question.is at start.requires),
       );
     }
 
-add-more-3 : tie.Need-overflow-add-more-3
+add-more-3 : tie.Need-overflow_add-more-in-Constraint
 add-more-3 c =
-    let start = c.before.before.before in
+    let start = c.before.before in
     record {
       fits = omega (
         arith,
-        (room_of (Constraint c.before.enum-told3.given.0.0) start.args.before
-            (rw c.before.enum-told3.given.1 at start.requires)).0,
+        (room_of (Constraint c.in-Constraint.field-0) start.args.before
+            (rw c.in-Constraint.is at start.requires)).0,
       );
     }
 
-returns : tie.Need-returns
-returns c = rw c.before.enum_told.given.1
+returns : tie.Need-returns-in-Row
+returns c = rw c.in-Row.is
 
-returns_2 : tie.Need-returns-2
-returns_2 c = rw c.before.enum-told2.given.1
+returns_2 : tie.Need-returns-in-Question
+returns_2 c = rw c.in-Question.is
 
-returns_3 : tie.Need-returns-3
-returns_3 c = rw c.before.enum-told3.given.1
+returns_3 : tie.Need-returns-in-Constraint
+returns_3 c = rw c.in-Constraint.is
 
-returns_4 : tie.Need-returns-4
-returns_4 c = rw c.enum-told4.given.1
+returns_4 : tie.Need-returns-in-Supplier
+returns_4 c = rw c.in-Supplier.is
 
-pub one-more-spec : {M : Type 1} → statement M
-one-more-spec =
+pub one_more_spec : {M : Type 1} → statement M
+one_more_spec =
     tie.close
     (tie.spec
     (λ c. search rules)

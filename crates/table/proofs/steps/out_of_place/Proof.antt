@@ -11,23 +11,23 @@ or_some : (n m : ℕ) → (n ≡ 0 → ⊥) → or_else n m ≡ n
 or_some zero m h = absurd (h refl)
 or_some (suc n) m h = refl
 
-returns : tie.Need-returns
+returns : tie.Need-returns-then-full-ne0
 returns c =
-    let full = c.before.no_room.ensures in
-    full ∙ sym (or_some _ _ (λ z. c.if1.true (full ∙ z)))
+    let full = c.no_room-full.ensures in
+    full ∙ sym (or_some _ _ (λ z. c.if-full-ne0.true (full ∙ z)))
 
-returns_2 : tie.Need-returns-2
+returns_2 : tie.Need-returns-then-well
 returns_2 c =
     let room = c.before in
-    rw (← room.before.no_room.ensures, room.if1.false, c.if2.true)
+    rw (← room.no_room-full.ensures, room.if-full-ne0.false, c.if-well.true)
 
-returns_3 : tie.Need-returns-3
+returns_3 : tie.Need-returns-else-well
 returns_3 c =
     let room = c.before in
-    rw (← room.before.no_room.ensures, room.if1.false, c.if2.false)
+    rw (← room.no_room-full.ensures, room.if-full-ne0.false, c.if-well.false)
 
-pub out-of-place-spec : {M : Type 1} → statement M
-out-of-place-spec =
+pub out_of_place_spec : {M : Type 1} → statement M
+out_of_place_spec =
     tie.close
     (tie.spec
     (λ c κs. search rules)

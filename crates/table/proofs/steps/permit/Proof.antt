@@ -23,42 +23,42 @@ both_said : (e : Entry) (well : Bool) (before : Tally) → permitted e well befo
 unfolding permitted
 both_said e well before = unless_twice (no_room e.kind before) (unless_placed well) (numbers_said e before)
 
-returns : tie.Need-returns
+returns : tie.Need-returns-then-out-ne0
 unfolding shown_step
 returns c =
-    let start = c.before.before.before.args in
-    let out = c.before.before.out-of-place.ensures in
+    let start = c.args in
+    let out = c.out_of_place-out.ensures in
     rw (
       both_said start.e start.well start.before,
-      unless_some _ (numbers_said start.e start.before) (λ z. c.before.if1.true (out ∙ z)),
+      unless_some _ (numbers_said start.e start.before) (λ z. c.if-out-ne0.true (out ∙ z)),
       ← out,
     ) c.bad.ensures
 
 -- an entry that is in place: the first of its numbers that offends, if any
-offending-in-requires : tie.Need-offending-in-requires
-offending-in-requires c κs = c.form_of.ensures
+offending-in-requires : tie.Need-offending_in-place-requires
+offending-in-requires c κs = c.form_of-form.ensures
 
-in_place : (c : tie.After-form-of) → let start = c.before.before.before.args in
+in_place : (c : tie.After-form_of-form) → let start = c.args in
     permitted start.e start.well start.before ≡ numbers_said start.e start.before
 in_place c =
-    let start = c.before.before.before.args in
+    let start = c.args in
     both_said start.e start.well start.before
-    ∙ unless_none _ (numbers_said start.e start.before) (sym c.before.before.out-of-place.ensures ∙ c.before.if1.false)
+    ∙ unless_none _ (numbers_said start.e start.before) (sym c.out_of_place-out.ensures ∙ c.if-out-ne0.false)
 
-returns_2 : tie.Need-returns-2
+returns_2 : tie.Need-returns-then-place-ne0
 unfolding shown_step
 returns_2 c =
     let found = c.before.before.before in
-    let start = found.before.before.before.before.args in
-    let place = found.offending-in.ensures in
-    let number = c.before.misnamed-of.ensures ∙ ap (λ f. misnamed f.names) found.before.form_of.ensures in
-    rw (in_place found.before, misnaming_some start.e _ (λ z. c.before.before.if2.true (place ∙ z)), ← place, ← number) c.bad2.ensures
+    let start = found.args in
+    let place = found.offending_in-place.ensures in
+    let number = c.misnamed_of.ensures ∙ ap (λ f. misnamed f.names) found.form_of-form.ensures in
+    rw (in_place found.before, misnaming_some start.e _ (λ z. c.if-place-ne0.true (place ∙ z)), ← place, ← number) c.bad-then-place-ne0.ensures
 
-returns_3 : tie.Need-returns-3
+returns_3 : tie.Need-returns
 unfolding shown_step
 returns_3 c =
     let found = c.before in
-    rw (in_place found.before, ← found.offending-in.ensures, c.if2.false)
+    rw (in_place found.before, ← found.offending_in-place.ensures, c.if-place-ne0.false)
 
 pub permit_spec : {M : Type 1} → statement M
 permit_spec =

@@ -7,32 +7,32 @@ use borrow.Author.Rules.{rules}
 use Rattle.table.proofs.steps.placed_at.Statement.{statement}
 use Rattle.table.proofs.steps.placed_at.Tie as tie
 
-returns : tie.Need-returns
+returns : tie.Need-returns-in-Row
 unfolding placed
-returns c = rw c.enum_told.given.1
+returns c = rw c.in-Row.is
 
-returns_2 : tie.Need-returns-2
+returns_2 : tie.Need-returns-in-Question
 unfolding placed
-returns_2 c = rw c.enum-told2.given.1
+returns_2 c = rw c.in-Question.is
 
-returns_3 : tie.Need-returns-3
+returns_3 : tie.Need-returns-in-Constraint
 unfolding placed
-returns_3 c = rw c.enum-told3.given.1
+returns_3 c = rw c.in-Constraint.is
 
-returns_4 : tie.Need-returns-4
+returns_4 : tie.Need-returns-in-Supplier
 unfolding placed
 returns_4 c =
     let told = c.before.before in
-    let a = told.before.before.before.args in
+    let a = told.args in
     by_equal a.e.a a.force
-    (λ q. rw (told.enum-told4.given.1, c.row_at.ensures, q))
+    (λ q. rw (told.in-Supplier.is, c.row_at.ensures, q))
     (λ h.
     let apart = ne_eqb a.e.a a.force h in
     let turned = ne_eqb a.force a.e.a (λ q. h (sym q)) in
-    rw (told.enum-told4.given.1, c.row_at.ensures) cc)
+    rw (told.in-Supplier.is, c.row_at.ensures) cc)
 
-pub placed-at-spec : {M : Type 1} → statement M
-placed-at-spec =
+pub placed_at_spec : {M : Type 1} → statement M
+placed_at_spec =
     tie.close
     (tie.spec
     (λ c. search rules)

@@ -14,43 +14,43 @@ use borrow.Author.Rules.{rules}
 use Rattle.table.proofs.steps.step_at.Statement.{statement}
 use Rattle.table.proofs.steps.step_at.Tie as tie
 
-returns : tie.Need-returns
+returns : tie.Need-returns-in-Unknown
 unfolding step_of judged shown_step
-returns c = rw (← c.before.before.before.decode.ensures, c.before.enum_told.given.1) c.bad.ensures
+returns c = rw (← c.decode-found.ensures, c.in-Unknown.is) c.bad.ensures
 
-returns_2 : tie.Need-returns-2
+returns_2 : tie.Need-returns-in-Cut
 unfolding step_of judged
-returns_2 c = rw (← c.before.before.before.before.decode.ensures, c.before.before.found.given.1) c.cut_short.ensures
+returns_2 c = rw (← c.decode-found.ensures, c.in-Cut.is) c.cut_short.ensures
 
 -- a whole entry: what it was decoded from, and where the bytes behind it begin
-abbrev found_at : tie.After-size-of → tie.After-found2
-found_at c = c.before.before
+abbrev found_at : tie.After-size_of → tie.In-Full
+found_at c = c.before
 
-abbrev entry : tie.After-size-of → Entry
-entry c = (found_at c).found2.given.0.0
+abbrev entry : tie.After-size_of → Entry
+entry c = (found_at c).in-Full.e
 
-is_full : (c : tie.After-size-of) → let start = (found_at c).before.before.before.before in
+is_full : (c : tie.After-size_of) → let start = (found_at c).before.before in
     decoded (get_or start.args.s.now start.args.at 0) (drop (start.args.at + 1) start.args.s.now) ≡ Full (entry c)
-is_full c = sym (found_at c).before.before.decode.ensures ∙ (found_at c).found2.given.1
+is_full c = sym (found_at c).decode-found.ensures ∙ (found_at c).in-Full.is
 
-add-placed-at : tie.Need-overflow-add-placed-at
+add-placed-at : tie.Need-overflow_add-at
 add-placed-at c =
-    let start = (found_at c).before.before.before.before in
+    let start = (found_at c).before.before in
     let whole = (decodes _ (drop (start.args.at + 1) start.args.s.now) (entry c) (is_full c)).whole in
-    record { fits = omega (arith, start.pre, whole, size (entry c), c.type_size.ensures.0, length-drop (start.args.at + 1) start.args.s.now) }
+    record { fits = omega (arith, start.requires, whole, size (entry c), c.size_of.ensures.0, length-drop (start.args.at + 1) start.args.s.now) }
 
-returns_3 : tie.Need-returns-3
+returns_3 : tie.Need-returns-in-Full
 unfolding step_of judged
 returns_3 c =
     let sized = c.before.before in
-    let start = (found_at sized).before.before.before.before in
-    let next : start.args.at + sized.type_size.result ≡ start.args.at + 1 + numbers_of (entry sized) =
-    omega (arith, sized.type_size.ensures.0, size (entry sized)) in
-    rw (is_full sized, drop-drop (numbers_of (entry sized)) (start.args.at + 1) start.args.s.now, ← next, ← c.before.placed_at_lem.ensures)
+    let start = (found_at sized).before.before in
+    let next : start.args.at + sized.size_of.result ≡ start.args.at + 1 + numbers_of (entry sized) =
+    omega (arith, sized.size_of.ensures.0, size (entry sized)) in
+    rw (is_full sized, drop-drop (numbers_of (entry sized)) (start.args.at + 1) start.args.s.now, ← next, ← c.placed_at.ensures)
     c.permit.ensures
 
-pub step-at-spec : {M : Type 1} → statement M
-step-at-spec =
+pub step_at_spec : {M : Type 1} → statement M
+step_at_spec =
     tie.close
     (tie.spec
     (λ c κs. search rules)
