@@ -7,17 +7,17 @@ use borrow.Author.Rules.{rules}
 use Rattle.decide.proofs.bit_of.Statement.{statement}
 use Rattle.decide.proofs.bit_of.Tie as tie
 
-returns : tie.Need-returns
+returns : tie.Need-returns-then-predicate-ge32
 unfolding bit
 returns c =
-    let h : c.before.args.mask < 2 ^ 32 = search rules in
-    let none : c.before.args.mask / 2 ^ c.before.args.predicate ≡ 0 =
-    div-eq_of_lt (lt_of_lt_of_le h (pow-le-pow_right (search rules) c.if1.true)) in
+    let h : c.args.mask < 2 ^ 32 = search rules in
+    let none : c.args.mask / 2 ^ c.args.predicate ≡ 0 =
+    div-eq_of_lt (lt_of_lt_of_le h (pow-le-pow_right (search rules) c.if-predicate-ge32.true)) in
     rw none
 
-returns_2 : tie.Need-returns-2
+returns_2 : tie.Need-returns
 unfolding bit
 returns_2 c = refl
 
-pub bit-of-spec : {M : Type 1} → statement M
-bit-of-spec = tie.close (tie.spec returns (λ c. search rules) returns_2)
+pub bit_of_spec : {M : Type 1} → statement M
+bit_of_spec = tie.close (tie.spec returns (λ c. search rules) returns_2)

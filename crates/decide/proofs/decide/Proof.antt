@@ -12,22 +12,22 @@ use borrow.Author.Rules.{rules}
 use Rattle.decide.proofs.decide.Statement.{statement}
 use Rattle.decide.proofs.decide.Tie as tie
 
-returns : tie.Need-returns
-returns c = simp (le-ltb _ _ c.if1.true)
+returns : tie.Need-returns-then-row-ge-ROWS
+returns c = simp (le-ltb _ _ c.if-row-ge-ROWS.true)
 
-returns_2 : tie.Need-returns-2
+returns_2 : tie.Need-returns
 returns_2 c =
-    let a = c.before.before.before.args in
-    let h : a.row < row_limit = c.before.before.if1.false in
+    let a = c.args in
+    let h : a.row < row_limit = c.if-row-ge-ROWS.false in
     rw (
-      c.before.decide-below.ensures,
+      c.decide_below-d.ensures,
       padded_at U row_limit (values (decides a.request) U a.t.rows (a.row + 1)) a.row,
       before_there
           (decides a.request) U a.t.rows (a.row + 1) a.row (omega arith),
     )
     (simp (lt-ltb _ _ h))
 
-pub decide-spec : {M : Type 1} → statement M
-decide-spec =
+pub decide_spec : {M : Type 1} → statement M
+decide_spec =
     tie.close
     (tie.spec returns (λ c. search rules) (λ c κs. search rules) (λ c. search rules) returns_2)

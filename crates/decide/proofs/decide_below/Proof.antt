@@ -12,33 +12,33 @@ use borrow.Author.Rules.{rules}
 use Rattle.decide.proofs.decide_below.Statement.{statement}
 use Rattle.decide.proofs.decide_below.Tie as tie
 
-abbrev invariant-loop : tie.invariant-loop
+abbrev invariant-loop : tie.invariant-loop-i
 invariant-loop end request t d₀ i₀ d i = (i ≤ end) × (d ≡ padded U row_limit (values (decides request) U t.rows i))
 
-abbrev decreases-loop : tie.decreases-loop
+abbrev decreases-loop : tie.decreases-loop-i
 decreases-loop end request t d₀ i₀ d i = end - i
 
-loop-holds : tie.Need-loop-init invariant-loop decreases-loop
+loop-holds : tie.Need-loop-i-init invariant-loop decreases-loop
 unfolding values
 loop-holds c = (omega arith, refl)
 
-loop-again : tie.Need-loop-preserved invariant-loop decreases-loop
+loop-again : tie.Need-loop-i-preserved invariant-loop decreases-loop
 loop-again c =
     let second = c.before.before.before in
     let first = second.before in
     let kind = first.before in
     let at = kind.before.before.before in
-    let v = rw (kind.as_row.ensures, first.index.ensures.0, second.index2.ensures.0) at c.decide_by.ensures in (
+    let v = rw (kind.as_row-row_kind.ensures, first.index-a.ensures.0, second.index-b.ensures.0) at c.decide_by-v.ensures in (
       omega arith,
-      turn (decides at.before.args.request) U at.before.args.t1.rows row_limit at.loop.i at.loop.d c.decide_by.result
-          (omega arith) at.loop.invariant.1 v,
+      turn (decides at.args.request) U at.args.t.rows row_limit at.loop-i.i at.loop-i.d c.decide_by-v.result
+          (omega arith) at.loop-i.invariant.1 v,
     )
 
 returns : tie.Need-returns invariant-loop decreases-loop
-returns c = let q : c.before.loop.i ≡ c.before.before.args.end = omega arith in rw q at c.before.loop.invariant.1
+returns c = let q : c.loop-i.i ≡ c.args.end = omega arith in rw q at c.loop-i.invariant.1
 
-pub decide-below-spec : {M : Type 1} → statement M
-decide-below-spec =
+pub decide_below_spec : {M : Type 1} → statement M
+decide_below_spec =
     tie.close
     (tie.spec
     invariant-loop

@@ -7,21 +7,19 @@ use borrow.Author.Rules.{rules}
 use Rattle.lookup.proofs.entry_refusal.Statement.{statement}
 use Rattle.lookup.proofs.entry_refusal.Tie as tie
 
-returns : tie.Need-returns
+returns : tie.Need-returns-in-At
 returns c =
     let told = c.before in
-    let start = told.before.before.before.before.args in
-    let part = told.enum_told.given in
-    rw (c.of.ensures, at_part (place_of (reading start.table.now) start.row) part.0.0 (sym told.before.before.find.ensures ∙ part.1))
+    let start = told.args in
+    rw (c.of.ensures, at_part (place_of (reading start.table.now) start.row) told.in-At.field-0 (sym told.find-found.ensures ∙ told.in-At.is))
 
-returns_2 : tie.Need-returns-2
+returns_2 : tie.Need-returns-in-Missing
 returns_2 c =
-    let start = c.before.before.before.before.before.args in
-    let why = c.before.found.given in
-    rw (missing_part (place_of (reading start.table.now) start.row) why.0.0 (sym c.before.before.before.find.ensures ∙ why.1))
+    let start = c.args in
+    rw (missing_part (place_of (reading start.table.now) start.row) c.in-Missing.why (sym c.find-found.ensures ∙ c.in-Missing.is))
 
-pub entry-refusal-spec : {M : Type 1} → statement M
-entry-refusal-spec =
+pub entry_refusal_spec : {M : Type 1} → statement M
+entry_refusal_spec =
     tie.close
     (tie.spec
     (λ c κs. search rules)

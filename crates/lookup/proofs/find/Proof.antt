@@ -20,54 +20,54 @@ use Rattle.lookup.proofs.find.Statement.{statement}
 use Rattle.lookup.proofs.find.Tie as tie
 
 -- once the table was read: the row asked for, what the reading stands for, and how many rows there are
-abbrev row_at : tie.After-enum-told → ℕ
-row_at c = c.before.before.before.before.args.row
+abbrev row_at : tie.In-Read → ℕ
+row_at c = c.args.row
 
-open_at : (c : tie.After-enum-told) → Opened c.before.before.before.before.args.table.now c.before.before.read.result
+open_at : (c : tie.In-Read) → Opened c.args.table.now c.read-got.result
 open_at c =
-    opened c.before.before.before.before.args.table.now c.before.before.read.result c.before.before.read.ensures c.enum_told.given.1
+    opened c.args.table.now c.read-got.result c.read-got.ensures c.in-Read.is
 
-used : (c : tie.After-enum-told) → c.before.before.read.result.table.tally.rows ≡ length (open_at c).contents.rows
+used : (c : tie.In-Read) → c.read-got.result.table.tally.rows ≡ length (open_at c).contents.rows
 unfolding table_of
 used c = ap (λ (t : Table). t.tally.rows) (open_at c).table
 
-bound : (c : tie.After-enum-told) → c.before.before.read.result.table.tally.constraints ≡ length (open_at c).contents.constraints
+bound : (c : tie.In-Read) → c.read-got.result.table.tally.constraints ≡ length (open_at c).contents.constraints
 unfolding table_of
 bound c = ap (λ (t : Table). t.tally.constraints) (open_at c).table
 
-returns : tie.Need-returns
+returns : tie.Need-returns-in_default
 unfolding place_of shown_place
 returns c =
     let told = c.before in
-    let got = told.before.before in
-    rw (turned got.before.before.args.table.now got.read.result got.read.ensures told.enum-told2.given.1)
+    let got = told.before in
+    rw (turned got.args.table.now got.read-got.result got.read-got.ensures told.in_default.is)
 
-returns_2 : tie.Need-returns-2
+returns_2 : tie.Need-returns-then-t-at
 unfolding shown_place
 returns_2 c =
     let told = c.before.before.before in
     let o = open_at told in
-    rw (o.is, place_missing o.contents (row_at told) (rw (used told) at c.before.if1.true), c.of.ensures)
+    rw (o.is, place_missing o.contents (row_at told) (rw (used told) at c.if-t-at.true), c.of.ensures)
 
-element-copy-out-e : tie.Need-element-copy-out-e
-element-copy-out-e c = omega (arith, rw (used c.before.before) at c.if1.false, (open_at c.before.before).whole.rows_fit)
+element-copy-out-e : tie.Need-bounds-t-at
+element-copy-out-e c = omega (arith, rw (used c.before.before) at c.if-t-at.false, (open_at c.before.before).whole.rows_fit)
 
-add-size : tie.Need-overflow-add-size
-add-size c = record { fits = omega (arith, c.body-size.ensures.1) }
+add-size : tie.Need-overflow_add-size
+add-size c = record { fits = omega (arith, c.body_size-size.ensures.1) }
 
 -- where the row is there and the size of a constraint is known
-abbrev there-at : tie.After-body-size → tie.After-enum-told
+abbrev there-at : tie.After-body_size-size → tie.In-Read
 there-at c = c.before.before.before.before
 
-fewer : (c : tie.After-body-size) → row_at (there-at c) < length (open_at (there-at c)).contents.rows
-fewer c = rw (used (there-at c)) at c.before.before.if1.false
+fewer : (c : tie.After-body_size-size) → row_at (there-at c) < length (open_at (there-at c)).contents.rows
+fewer c = rw (used (there-at c)) at c.if-t-at.false
 
-mul-start : tie.Need-overflow-mul-start
+mul-start : tie.Need-overflow_mul-start
 mul-start c =
     let told = there-at c in
-    record { fits = rw c.body-size.ensures.0 (omega (arith, bound told, (open_at told).whole.constraints_fit)) }
+    record { fits = rw c.body_size-size.ensures.0 (omega (arith, bound told, (open_at told).whole.constraints_fit)) }
 
-bytes-before-requires : tie.Need-bytes-before-requires
+bytes-before-requires : tie.Need-bytes_before-requires
 unfolding table_of
 bytes-before-requires c κs =
     let o = open_at (there-at c) in
@@ -78,13 +78,13 @@ bytes-before-requires c κs =
       ap (λ (t : Table). length t.suppliers) o.table ∙ owned,
     )
 
-add_start : tie.Need-overflow-add-start
+add_start : tie.Need-overflow_add-start
 add_start c =
     let told = there-at c.before in
     let few = (open_at told).whole.constraints_fit in
-    record { fits = rw c.before.body-size.ensures.0 (omega (arith, bound told, few, c.bytes-before.ensures.1)) }
+    record { fits = rw c.body_size-size.ensures.0 (omega (arith, bound told, few, c.bytes_before.ensures.1)) }
 
-returns_3 : tie.Need-returns-3
+returns_3 : tie.Need-returns
 unfolding shown_place
 returns_3 c =
     let sized = c.before.before in
@@ -93,12 +93,12 @@ returns_3 c =
     let o = open_at told in
     let rows = ap (λ (t : Table). t.rows) o.table in
     let owned = ap (λ (t : Table). t.suppliers) o.table in
-    let before = c.before.bytes-before.ensures.0 ∙ ap₂ (λ (ss : List ℕ) (es : List Entry). bytes_before ss es row) owned rows in
-    let each = ap (λ (n : ℕ). n + 1) sized.body-size.ensures.0 in
-    let start = ap₂ (λ (n m : ℕ). (sized.body-size.result + 1) * n + m) (bound told) before in
-    let size = c.type_size.ensures.0 ∙ ap (λ (es : List Entry). size_of (get_or es row blank)) rows in
+    let before = c.bytes_before.ensures.0 ∙ ap₂ (λ (ss : List ℕ) (es : List Entry). bytes_before ss es row) owned rows in
+    let each = ap (λ (n : ℕ). n + 1) sized.body_size-size.ensures.0 in
+    let start = ap₂ (λ (n m : ℕ). (sized.body_size-size.result + 1) * n + m) (bound told) before in
+    let size = c.size_of-length.ensures.0 ∙ ap (λ (es : List Entry). size_of (get_or es row blank)) rows in
     rw (o.is, place_there o.contents row (fewer sized))
-    (ap At (found_part o.contents o.whole row _ _ c.type_size.result (fewer sized) each start size))
+    (ap At (found_part o.contents o.whole row _ _ c.size_of-length.result (fewer sized) each start size))
 
 pub find_spec : {M : Type 1} → statement M
 find_spec =
