@@ -15,81 +15,64 @@ use Rattle.constraints.specs.Constraints.{broken_by, waited_by, standing_by, sta
 use Rattle.constraints.proofs.Standings.{Looked, none_looked, looked_broken, looked_waiting, looked_kept, looked_all}
 use borrow.Author.Rules.{rules}
 use Rattle.constraints.proofs.met.Statement.{statement}
+use Rattle.constraints.proofs.met.Lts.{in-Waiting, in-Kept}
 use Rattle.constraints.proofs.met.Tie as tie
 
-abbrev invariant-loop : tie.invariant-loop
+abbrev invariant-loop : tie.invariant-loop-i
 invariant-loop run known facts count waits₀ i₀ waits i = (i ≤ count) × Looked (entries_in run) known facts i waits
 
-abbrev decreases-loop : tie.decreases-loop
+abbrev decreases-loop : tie.decreases-loop-i
 decreases-loop run known facts count waits₀ i₀ waits i = count - i
 
-loop-holds : tie.Need-loop-init invariant-loop decreases-loop
-loop-holds c = let a = c.before.args in (omega arith, none_looked (entries_in a.run.now) a.known a.facts)
+loop-holds : tie.Need-loop-i-init invariant-loop decreases-loop
+loop-holds c = let a = c.args in (omega arith, none_looked (entries_in a.run.now) a.known a.facts)
 
--- at a constraint: the loop's head, the constraints, and that this is one of them
-abbrev inside : tie.After-stands-by invariant-loop decreases-loop → tie.In-loop invariant-loop decreases-loop
-inside c = c.before.before.before.before.before
+abbrev constraints : tie.At-loop-i invariant-loop decreases-loop → List Entry
+constraints c = entries_in c.args.run.now
 
-abbrev at_head : tie.After-stands-by invariant-loop decreases-loop → tie.At-loop invariant-loop decreases-loop
-at_head c = (inside c).before
-
-abbrev start : tie.At-loop invariant-loop decreases-loop → tie.Start invariant-loop decreases-loop
-start c = c.before.before
-
-abbrev constraints : tie.At-loop invariant-loop decreases-loop → List Entry
-constraints c = entries_in (start c).args.run.now
-
-is_there : (c : tie.After-stands-by invariant-loop decreases-loop) → (at_head c).loop.i < length (constraints (at_head c))
-is_there c = omega (arith, (inside c).loop-test.true, entries_count (start (at_head c)).args.run.now)
+is_there : (c : tie.After-stands_by-stands invariant-loop decreases-loop) → c.loop-i.i < length (constraints c.before.before.before.before.before.before)
+is_there c = omega (arith, c.loop-i-test.true, entries_count c.args.run.now)
 
 -- how the facts stand to it
-stands_here : (c : tie.After-stands-by invariant-loop decreases-loop) →
-    let a = (start (at_head c)).args in
-    let e = get_or (constraints (at_head c)) (at_head c).loop.i blank in
-    c.Stands-by.result ≡ standing_by (broken_by a.known a.facts e) (waited_by a.known a.facts e)
+stands_here : (c : tie.After-stands_by-stands invariant-loop decreases-loop) →
+    let a = c.args in
+    let e = get_or (constraints c.before.before.before.before.before.before) c.loop-i.i blank in
+    c.stands_by-stands.result ≡ standing_by (broken_by a.known a.facts e) (waited_by a.known a.facts e)
 stands_here c =
-    let run = (start (at_head c)).args.run.now in
-    let entry = held_at run (at_head c).loop.i (omega (arith, (inside c).loop-test.true)) in
-    rw (entry, ← c.before.before.before.kind_at.ensures) c.Stands-by.ensures
+    let run = c.args.run.now in
+    let entry = held_at run c.loop-i.i (omega (arith, c.loop-i-test.true)) in
+    rw (entry, ← c.kind_at-kind.ensures) c.stands_by-stands.ensures
 
-returns : tie.Need-returns invariant-loop decreases-loop
+returns : tie.Need-returns-in-Broken invariant-loop decreases-loop
 returns c =
-    let here = c.before.before in
-    let head = at_head here in
-    let a = (start head).args in
-    looked_broken (constraints head) a.known a.facts head.loop.i (is_there here) (sym (stands_here here) ∙ c.enum_told.given.1)
+    let a = c.args in
+    looked_broken (constraints c.before.before.before.before.before.before.before) a.known a.facts c.loop-i.i (is_there c.before) (sym (stands_here c.before) ∙ c.in-Broken.is)
 
-loop-again : tie.Need-loop-preserved invariant-loop decreases-loop
+loop-again : tie.Need-loop-i-preserved invariant-loop decreases-loop
 loop-again c =
-    let here = c.before in
-    let head = at_head here in
-    let a = (start head).args in
-    let all = constraints head in
-    let i = head.loop.i in (
+    let a = c.args in
+    let all = constraints c.before.before.before.before.before.before.before in
+    let i = c.loop-i.i in (
       omega arith,
-      ⊎_elim
-          (λ w. rw w.2 (looked_waiting all a.known a.facts i (is_there here) head.loop.inv.1 (sym (stands_here here) ∙ w.1.given.1)))
-          (λ w. rw w.2 (looked_kept all a.known a.facts i (is_there here) head.loop.inv.1 (sym (stands_here here) ∙ w.1.given.1)))
-          c.match.branch,
+      elim c.match-stands.branch [ in-Waiting w ↦ rw w.waits-is (looked_waiting all a.known a.facts i (is_there c.before) c.loop-i.invariant.1 (sym (stands_here c.before) ∙ w.in-Waiting.is)) | in-Kept w ↦ rw w.waits-is (looked_kept all a.known a.facts i (is_there c.before) c.loop-i.invariant.1 (sym (stands_here c.before) ∙ w.in-Kept.is)) ],
     )
 
 -- behind the last constraint, by whether one waits
-ended : (c : tie.After-loop invariant-loop decreases-loop) (waits : Bool) → c.before.loop.waits ≡ waits →
-    let a = (start c.before).args in cond waits Waiting Kept ≡ standing (constraints c.before) a.known a.facts
+ended : (c : tie.After-loop-i invariant-loop decreases-loop) (waits : Bool) → c.loop-i.waits ≡ waits →
+    let a = c.args in cond waits Waiting Kept ≡ standing (constraints c.before) a.known a.facts
 ended c waits e =
-    let head = c.before in
-    let a = (start head).args in
-    looked_all (constraints head) a.known a.facts head.loop.i head.loop.waits waits
-    (omega (arith, head.loop.invariant.0, c.loop-test.false, entries_count a.run.now)) e head.loop.invariant.1
+    let a = c.args in
+    looked_all (constraints c.before) a.known a.facts c.loop-i.i c.loop-i.waits waits
+    (omega (arith, c.loop-i.invariant.0, c.loop-i-test.false, entries_count a.run.now)) e c.loop-i.invariant.1
 
-returns_2 : tie.Need-returns-2 invariant-loop decreases-loop
-returns_2 c = ended c.before true c.if1.true
+returns_2 : tie.Need-returns-then-waits invariant-loop decreases-loop
+returns_2 c = ended c.before true c.if-waits.true
 
-returns_3 : tie.Need-returns-3 invariant-loop decreases-loop
-returns_3 c = ended c.before false c.if1.false
+returns_3 : tie.Need-returns-else-waits invariant-loop decreases-loop
+returns_3 c = ended c.before false c.if-waits.false
 
-pub met-spec : {M : Type 1} → statement M
-met-spec =
+pub met_spec : {M : Type 1} → statement M
+met_spec =
     tie.close
     (tie.spec
     invariant-loop

@@ -12,34 +12,34 @@ use borrow.Author.Rules.{rules}
 use Rattle.possible.proofs.possible.Statement.{statement}
 use Rattle.possible.proofs.possible.Tie as tie
 
-returns : tie.Need-returns
-returns c = simp (le-ltb _ _ c.before.if1.true) c.only.ensures
+returns : tie.Need-returns-then-row-ge-ROWS
+returns c = simp (le-ltb _ _ c.if-row-ge-ROWS.true) c.only.ensures
 
 -- the run of the rows up to the one asked for
-run_is : (c : tie.After-flat) →
-    Written c.before.before.args.t.rows (c.before.before.args.row + 1) (per_entry * row_limit) c.flat.result
+run_is : (c : tie.After-flat-rows) →
+    Written c.args.t.rows (c.args.row + 1) (per_entry * row_limit) c.flat-rows.result
 run_is c =
-    let end = c.before.before.args.row + 1 in
-    let q : min end row_limit ≡ end = omega (arith, c.before.if1.false) in
-    rw q at c.flat.ensures
+    let end = c.args.row + 1 in
+    let q : min end row_limit ≡ end = omega (arith, c.if-row-ge-ROWS.false) in
+    rw q at c.flat-rows.ensures
 
-slice-aggregate-fill-sets : tie.Need-slice-aggregate-fill-sets
+slice-aggregate-fill-sets : tie.Need-slice_bounds-fill_sets-end
 slice-aggregate-fill-sets c =
     let rows = c.before in
-    let a = rows.before.before.args in
-    sym (front_length a.t.rows (a.row + 1) (per_entry * row_limit) rows.flat.result (run_is rows) (omega (arith, rows.before.if1.false)))
+    let a = rows.args in
+    sym (front_length a.t.rows (a.row + 1) (per_entry * row_limit) rows.flat-rows.result (run_is rows) (omega (arith, rows.if-row-ge-ROWS.false)))
 
-returns_2 : tie.Need-returns-2
+returns_2 : tie.Need-returns
 returns_2 c =
     let rows = c.before.before.before.before in
-    let a = rows.before.before.args in
-    let there = rows.before.if1.false in
+    let a = rows.args in
+    let there = rows.if-row-ge-ROWS.false in
     row_set a.t.rows a.known a.request a.row (per_entry * row_limit) _ _ (replicate row_limit 0) (run_is rows) (omega (arith, there))
-    (omega (arith, there, length-replicate {A = ℕ} row_limit 0)) c.before.fill-sets.ensures
+    (omega (arith, there, length-replicate {A = ℕ} row_limit 0)) c.fill_sets.ensures
     ∙ simp (lt-ltb _ _ there)
 
-pub possible-spec : {M : Type 1} → statement M
-possible-spec =
+pub possible_spec : {M : Type 1} → statement M
+possible_spec =
     tie.close
     (tie.spec
     (λ c κs. search rules)

@@ -4,28 +4,28 @@ use borrow.Author.Rules.{rules}
 use Rattle.possible.proofs.set_by.Statement.{statement}
 use Rattle.possible.proofs.set_by.Tie as tie
 
-returns : tie.Need-returns
+returns : tie.Need-returns-in-Always
 unfolding set_by
-returns c = rw c.before.before.kind.given.1 c.only.ensures
+returns c = rw c.in-Always.is c.only.ensures
 
-returns_2 : tie.Need-returns-2
+returns_2 : tie.Need-returns-in-DenyIf
 unfolding set_by
-returns_2 c = rw c.before.enum_told.given.1 c.fact-set.ensures
+returns_2 c = rw c.in-DenyIf.is c.fact_set.ensures
 
-returns_3 : tie.Need-returns-3
+returns_3 : tie.Need-returns-in-GrantIf
 unfolding set_by
-returns_3 c = rw c.before.enum-told2.given.1 c.fact-set2.ensures
+returns_3 c = rw c.in-GrantIf.is c.fact_set-in-GrantIf.ensures
 
-returns_4 : tie.Need-returns-4
+returns_4 : tie.Need-returns-in-One
 unfolding set_by
-returns_4 c = rw c.before.before.kind2.given.1 c.image-one.ensures
+returns_4 c = rw c.in-One.is c.image_one.ensures
 
-returns_5 : tie.Need-returns-5
+returns_5 : tie.Need-returns-in-Two
 unfolding set_by
-returns_5 c = rw c.before.before.kind3.given.1 c.image-two.ensures
+returns_5 c = rw c.in-Two.is c.image_two.ensures
 
-pub set-by-spec : {M : Type 1} → statement M
-set-by-spec =
+pub set_by_spec : {M : Type 1} → statement M
+set_by_spec =
     tie.close
     (tie.spec
     (λ c. search rules)

@@ -11,32 +11,31 @@ use borrow.Author.Rules.{rules}
 use Rattle.suppliers.proofs.flagged.Statement.{statement}
 use Rattle.suppliers.proofs.flagged.Tie as tie
 
-abbrev invariant-loop : tie.invariant-loop
+abbrev invariant-loop : tie.invariant-loop-i
 invariant-loop end marks suppliers flags₀ i₀ flags i =
     (i ≤ end) × (length flags ≡ number_limit) × Shows flags (has suppliers (passing i (flag marks)))
 
-abbrev decreases-loop : tie.decreases-loop
+abbrev decreases-loop : tie.decreases-loop-i
 decreases-loop end marks suppliers flags₀ i₀ flags i = end - i
 
-loop-holds : tie.Need-loop-init invariant-loop decreases-loop
+loop-holds : tie.Need-loop-i-init invariant-loop decreases-loop
 unfolding passing
 loop-holds c = (omega arith, refl, none_set number_limit)
 
-loop-again : tie.Need-loop-preserved invariant-loop decreases-loop
+loop-again : tie.Need-loop-i-preserved invariant-loop decreases-loop
 loop-again c =
-    let now = c.before.before.loop in
-    let args = c.before.before.before.args in (
+    let args = c.args in (
       omega arith,
-      simp length-set now.invariant.1,
-      supplier_raised args.t2 args.t1 now.flags now.i c.index.result c.index.ensures.0
-          (omega (arith, c.index.ensures.1, now.invariant.1)) now.invariant.2,
+      simp length-set c.loop-i.invariant.1,
+      supplier_raised args.suppliers args.marks c.loop-i.flags c.loop-i.i c.index-s.result c.index-s.ensures.0
+          (omega (arith, c.index-s.ensures.1, c.loop-i.invariant.1)) c.loop-i.invariant.2,
     )
 
 returns : tie.Need-returns invariant-loop decreases-loop
-returns c = let q : c.before.loop.i ≡ c.before.before.args.end = omega arith in rw q at c.before.loop.invariant.2
+returns c = let q : c.loop-i.i ≡ c.args.end = omega arith in rw q at c.loop-i.invariant.2
 
-pub flagged-spec : {M : Type 1} → statement M
-flagged-spec =
+pub flagged_spec : {M : Type 1} → statement M
+flagged_spec =
     tie.close
     (tie.spec
     invariant-loop

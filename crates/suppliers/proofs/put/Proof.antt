@@ -8,42 +8,42 @@ use Rattle.suppliers.specs.Suppliers.{flag}
 use Rattle.suppliers.proofs.Listing.{Written, written_none, written_length, written_room, written_more, written_less}
 use borrow.Author.Rules.{rules}
 use Rattle.suppliers.proofs.put.Statement.{statement}
+use Rattle.suppliers.proofs.put.Lts.{then-flags-s, else-flags-s}
 use Rattle.suppliers.proofs.put.Tie as tie
 
-abbrev invariant-loop : tie.invariant-loop
+abbrev invariant-loop : tie.invariant-loop-s
 invariant-loop out₀ flags n₀ s₀ out n s = (s ≤ number_limit) × Written (flag flags) number_limit out₀ s n out
 
-abbrev decreases-loop : tie.decreases-loop
+abbrev decreases-loop : tie.decreases-loop-s
 decreases-loop out₀ flags n₀ s₀ out n s = number_limit - s
 
-loop-holds : tie.Need-loop-init invariant-loop decreases-loop
-loop-holds c = (omega arith, written_none (flag c.args.t1) number_limit c.args.out.now c.requires)
+loop-holds : tie.Need-loop-s-init invariant-loop decreases-loop
+loop-holds c = (omega arith, written_none (flag c.args.flags) number_limit c.args.out.now c.requires)
 
-slice-write-out : tie.Need-slice-write-out invariant-loop decreases-loop
+slice-write-out : tie.Need-bounds-out-n invariant-loop decreases-loop
 slice-write-out c =
-    let was = c.before.before.loop.invariant in
-    omega (arith, written_length was.1 was.0, written_room was.1 (omega arith) c.if1.true)
+    let was = c.loop-s.invariant in
+    omega (arith, written_length was.1 was.0, written_room was.1 (omega arith) c.if-flags-s.true)
 
-add-n : tie.Need-overflow-add-n invariant-loop decreases-loop
+add-n : tie.Need-overflow_add-n invariant-loop decreases-loop
 add-n c =
-    let was = c.before.before.loop.invariant in
-    record { fits = omega (arith, written_room was.1 (omega arith) c.if1.true) }
+    let was = c.loop-s.invariant in
+    record { fits = omega (arith, written_room was.1 (omega arith) c.if-flags-s.true) }
 
-loop-again : tie.Need-loop-preserved invariant-loop decreases-loop
+loop-again : tie.Need-loop-s-preserved invariant-loop decreases-loop
 loop-again c =
-    let was = c.before.before.loop.invariant.1 in (
+    let was = c.loop-s.invariant.1 in (
       omega arith,
-      ⊎_elim (λ w. rw (w.1, w.2) (written_more was (omega arith) w.0.taken))
-          (λ w. rw (w.1, w.2) (written_less was w.0.left)) c.if1.branch,
+      elim c.if-flags-s.branch [ then-flags-s w ↦ rw (w.out-is, w.n-is) (written_more was (omega arith) w.if-flags-s.true) | else-flags-s w ↦ rw (w.out-is, w.n-is) (written_less was w.if-flags-s.false) ],
     )
 
-same_length : tie.Need-same-length invariant-loop decreases-loop
-same_length c = written_length c.before.loop.invariant.1 c.before.loop.invariant.0
+same_length : tie.Need-shape_of-out invariant-loop decreases-loop
+same_length c = written_length c.loop-s.invariant.1 c.loop-s.invariant.0
 
 returns : tie.Need-returns invariant-loop decreases-loop
 returns c =
-    let done = c.before.loop.invariant.1 in
-    let q : c.before.loop.s ≡ number_limit = omega arith in
+    let done = c.loop-s.invariant.1 in
+    let q : c.loop-s.s ≡ number_limit = omega arith in
     (rw q at done.counted, rw q at done.written)
 
 pub put_spec : {M : Type 1} → statement M

@@ -12,45 +12,45 @@ use borrow.Author.Rules.{rules}
 use Rattle.suppliers.proofs.reach.Statement.{statement}
 use Rattle.suppliers.proofs.reach.Tie as tie
 
-abbrev invariant-loop : tie.invariant-loop
+abbrev invariant-loop : tie.invariant-loop-i
 invariant-loop row t marks₀ i₀ marks i = (i ≤ row + 1) × (length marks ≡ row_limit) × Marked t.rows row i marks
 
-abbrev decreases-loop : tie.decreases-loop
+abbrev decreases-loop : tie.decreases-loop-i
 decreases-loop row t marks₀ i₀ marks i = i
 
-loop-holds : tie.Need-loop-init invariant-loop decreases-loop
+loop-holds : tie.Need-loop-i-init invariant-loop decreases-loop
 loop-holds c = (
   omega arith,
   length-set (replicate row_limit false) c.args.row true,
-  marked_first c.args.t1.rows c.requires.0 c.args.row row_limit c.requires.1,
+  marked_first c.args.t.rows c.requires.0 c.args.row row_limit c.requires.1,
 )
 
-loop-again : tie.Need-loop-preserved invariant-loop decreases-loop
+loop-again : tie.Need-loop-i-preserved invariant-loop decreases-loop
 loop-again c =
     let first = c.before in
     let b = first.before in
     let a = b.before in
     let at = a.before.before.before in
     let start = at.before in
-    let m = at.loop.marks in
-    let i = at.loop.i in
+    let m = at.loop-i.marks in
+    let i = at.loop-i.i in
     let next : i ≡ suc (i - 1) = omega arith in
-    let e = get_or start.args.t1.rows (i - 1) blank in (
+    let e = get_or start.args.t.rows (i - 1) blank in (
       omega arith,
-      simp length-set at.loop.invariant.1,
-      marked_more start.args.t1.rows start.requires.0 start.args.row (i - 1) m _ (rw next at at.loop.invariant.2)
-          (names_raised m e (flag m (i - 1)) _ _ _ _ a.index.ensures.0 b.index2.ensures.0 first.names-row.ensures c.names-row2.ensures
-          (omega (arith, a.index.ensures.1, at.loop.invariant.1)) (omega (arith, b.index2.ensures.1, at.loop.invariant.1))),
+      simp length-set at.loop-i.invariant.1,
+      marked_more start.args.t.rows start.requires.0 start.args.row (i - 1) m _ (rw next at at.loop-i.invariant.2)
+          (names_raised m e (flag m (i - 1)) _ _ _ _ a.index-a.ensures.0 b.index-b.ensures.0 first.names_row.ensures c.names_row-in-loop-i.ensures
+          (omega (arith, a.index-a.ensures.1, at.loop-i.invariant.1)) (omega (arith, b.index-b.ensures.1, at.loop-i.invariant.1))),
     )
 
 returns : tie.Need-returns invariant-loop decreases-loop
 returns c =
     let start = c.before.before in
-    let z : c.before.loop.i ≡ 0 = omega arith in
-    marked_all start.args.t1.rows start.requires.0 start.args.row c.before.loop.marks (rw z at c.before.loop.invariant.2)
+    let z : c.loop-i.i ≡ 0 = omega arith in
+    marked_all start.args.t.rows start.requires.0 start.args.row c.loop-i.marks (rw z at c.loop-i.invariant.2)
 
-pub reach-spec : {M : Type 1} → statement M
-reach-spec =
+pub reach_spec : {M : Type 1} → statement M
+reach_spec =
     tie.close
     (tie.spec
     invariant-loop

@@ -12,12 +12,12 @@ use Rattle.suppliers.proofs.supplied.Tie as tie
 
 returns : tie.Need-returns
 returns c s =
-    let args = c.before.before.before.args in
-    let marks = c.before.reach in
+    let args = c.args in
+    let marks = c.reach-marks in
     c.flagged.ensures s
     ∙ ap (λ (rows : List ℕ). has args.t.suppliers rows s)
     (ap (λ (n : ℕ). passing n (flag marks.result)) (omega arith)
     ∙ passing_same (suc args.row) (flag marks.result) (reaches_row args.t.rows args.row) (λ i l. marks.ensures i))
 
-pub supplied-spec : {M : Type 1} → statement M
-supplied-spec = tie.close (tie.spec (λ c κs. search rules) (λ c. search rules) (λ c κs. search rules) returns)
+pub supplied_spec : {M : Type 1} → statement M
+supplied_spec = tie.close (tie.spec (λ c κs. search rules) (λ c. search rules) (λ c κs. search rules) returns)

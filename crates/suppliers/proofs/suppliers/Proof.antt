@@ -25,54 +25,54 @@ use Rattle.suppliers.proofs.suppliers.Statement.{statement}
 use Rattle.suppliers.proofs.suppliers.Tie as tie
 
 -- once the table was read: what it holds, and that the struct shows its rows and suppliers
-abbrev start-at : tie.After-enum-told → tie.Start
-start-at c = c.before.before.before.before.before
+abbrev start-at : tie.In-Read → tie.Start
+start-at c = c.before.before.before.before
 
-open_at : (c : tie.After-enum-told) → Opened (start-at c).args.table.now c.before.before.read.result
-open_at c = opened (start-at c).args.table.now c.before.before.read.result c.before.before.read.ensures c.enum_told.given.1
+open_at : (c : tie.In-Read) → Opened (start-at c).args.table.now c.read-got.result
+open_at c = opened (start-at c).args.table.now c.read-got.result c.read-got.ensures c.in-Read.is
 
-abbrev table_at : tie.After-enum-told → Table
-table_at c = c.before.before.read.result.table
+abbrev table_at : tie.In-Read → Table
+table_at c = c.read-got.result.table
 
-used : (c : tie.After-enum-told) → (table_at c).tally.rows ≡ length (open_at c).contents.rows
+used : (c : tie.In-Read) → (table_at c).tally.rows ≡ length (open_at c).contents.rows
 unfolding table_of
 used c = ap (λ (t : Table). t.tally.rows) (open_at c).table
 
-row_shown : (c : tie.After-enum-told) (i : ℕ) → get_or (table_at c).rows i blank ≡ get_or (open_at c).contents.rows i blank
+row_shown : (c : tie.In-Read) (i : ℕ) → get_or (table_at c).rows i blank ≡ get_or (open_at c).contents.rows i blank
 unfolding table_of
 row_shown c i = ap (λ (t : Table). get_or t.rows i blank) (open_at c).table ∙ padded_at blank row_limit (open_at c).contents.rows i
 
-supplier_shown : (c : tie.After-enum-told) (i : ℕ) → get_or (table_at c).suppliers i no_supplier ≡ get_or (open_at c).contents.suppliers i no_supplier
+supplier_shown : (c : tie.In-Read) (i : ℕ) → get_or (table_at c).suppliers i no_supplier ≡ get_or (open_at c).contents.suppliers i no_supplier
 unfolding table_of
 supplier_shown c i =
     ap (λ (t : Table). get_or t.suppliers i no_supplier) (open_at c).table ∙ padded_at no_supplier row_limit (open_at c).contents.suppliers i
 
-returns : tie.Need-returns
+returns : tie.Need-returns-in_default
 unfolding list_of
 returns c =
     let told = c.before in
-    let got = told.before.before in
-    let a = got.before.before.before.args in
-    let why = turned a.table.now got.read.result got.read.ensures told.enum-told2.given.1 in
-    sends_none (list_of (reading a.table.now) a.row) a.out.now got.read.result.why (rw why)
+    let got = told.before in
+    let a = got.args in
+    let why = turned a.table.now got.read-got.result got.read-got.ensures told.in_default.is in
+    sends_none (list_of (reading a.table.now) a.row) a.out.now got.read-got.result.why (rw why)
 
-returns_2 : tie.Need-returns-2
+returns_2 : tie.Need-returns-then-t-r
 unfolding list_of
 returns_2 c =
     let told = c.before.before.before.before in
     let o = open_at told in
     let a = (start-at told).args in
-    let missing = le-leb (length o.contents.rows) a.row (rw (used told) at c.before.if1.true) in
+    let missing = le-leb (length o.contents.rows) a.row (rw (used told) at c.if-t-r.true) in
     rw c.of.ensures (sends_none (list_of (reading a.table.now) a.row) a.out.now (refusal not_there 0) (rw (o.is, missing)))
 
 -- where the row is there: its list is that of the flags
-abbrev told_at : tie.Else1 → tie.After-enum-told
+abbrev told_at : tie.Else-t-r → tie.In-Read
 told_at c = c.before.before.before
 
-there : (c : tie.Else1) → (start-at (told_at c)).args.row < length (open_at (told_at c)).contents.rows
-there c = rw (used (told_at c)) at c.if1.false
+there : (c : tie.Else-t-r) → (start-at (told_at c)).args.row < length (open_at (told_at c)).contents.rows
+there c = rw (used (told_at c)) at c.if-t-r.false
 
-supplied-requires : tie.Need-supplied-requires
+supplied-requires : tie.Need-supplied-flags-requires
 supplied-requires c κs =
     let told = told_at c in
     let o = open_at told in (
@@ -80,10 +80,10 @@ supplied-requires c κs =
       omega (arith, there c, o.whole.rows_fit),
     )
 
-abbrev list_at : tie.After-supplied → List ℕ
-list_at c = passing number_limit (flag c.supplied.result)
+abbrev list_at : tie.After-supplied-flags → List ℕ
+list_at c = passing number_limit (flag c.supplied-flags.result)
 
-list_is : (c : tie.After-supplied) → let a = (start-at (told_at c.before)).args in list_of (reading a.table.now) a.row ≡ answered (list_at c)
+list_is : (c : tie.After-supplied-flags) → let a = (start-at (told_at c.before)).args in list_of (reading a.table.now) a.row ≡ answered (list_at c)
 unfolding list_of
 list_is c =
     let told = told_at c.before in
@@ -92,24 +92,24 @@ list_is c =
     let rows = o.contents.rows in
     let owners = o.contents.suppliers in
     let low = whole_lower o.contents o.whole in
-    let flags = passing_same number_limit (flag c.supplied.result) (supplies (table_at told).rows (table_at told).suppliers row)
-    (λ i l. c.supplied.ensures i) in
+    let flags = passing_same number_limit (flag c.supplied-flags.result) (supplies (table_at told).rows (table_at told).suppliers row)
+    (λ i l. c.supplied-flags.ensures i) in
     let shown : suppliers_of (table_at told).rows (table_at told).suppliers row ≡ suppliers_of rows owners row =
     suppliers_kept (as_shown rows low (table_at told).rows (row_shown told)) owners (table_at told).suppliers (λ i k. supplier_shown told i) row tt in
     rw (o.is, lt-leb (length rows) row (there c.before)) (ap answered (sym (flags ∙ shown)))
 
-returns_3 : tie.Need-returns-3
+returns_3 : tie.Need-returns-then-out-count
 returns_3 c =
     let counted = c.before.before in
     let found = counted.before in
     let a = (start-at (told_at found.before)).args in
-    rw c.of2.ensures (sends_short (list_of (reading a.table.now) a.row) a.out.now _ (list_is found)
-    (rw counted.count.ensures at c.before.if2.true))
+    rw c.of-then-out-count.ensures (sends_short (list_of (reading a.table.now) a.row) a.out.now _ (list_is found)
+    (rw counted.count.ensures at c.if-out-count.true))
 
 put-requires : tie.Need-put-requires
-put-requires c κs = let room = c.before in rw room.before.count.ensures at room.if2.false
+put-requires c κs = let room = c.before in rw room.count.ensures at room.if-out-count.false
 
-returns_4 : tie.Need-returns-4
+returns_4 : tie.Need-returns
 returns_4 c =
     let wrote = c.before.before in
     let room = wrote.before.before in
@@ -117,11 +117,11 @@ returns_4 c =
     let found = counted.before in
     let a = (start-at (told_at found.before)).args in
     let w = wrote.put.ensures in
-    let sends = sends_all (list_of (reading a.table.now) a.row) a.out.now _ (list_is found) (rw counted.count.ensures at room.if2.false) in
+    let sends = sends_all (list_of (reading a.table.now) a.row) a.out.now _ (list_is found) (rw counted.count.ensures at room.if-out-count.false) in
     (rw w.0 sends.0, w.1 ∙ rw w.0 sends.1)
 
-pub suppliers-spec : {M : Type 1} → statement M
-suppliers-spec =
+pub suppliers_spec : {M : Type 1} → statement M
+suppliers_spec =
     tie.close
     (tie.spec
     (λ c κs. search rules)

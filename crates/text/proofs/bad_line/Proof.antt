@@ -13,72 +13,62 @@ use borrow.Author.Rules.{rules}
 use Rattle.text.proofs.bad_line.Statement.{statement}
 use Rattle.text.proofs.bad_line.Tie as tie
 
-abbrev invariant-loop : tie.invariant-loop
+abbrev invariant-loop : tie.invariant-loop-at
 invariant-loop text from first at₀ line₀ at line =
     (at ≤ length text) × (line ≤ at + 1) × (bad_from first (drop from text) ≡ bad_from line (drop at text))
 
-abbrev decreases-loop : tie.decreases-loop
+abbrev decreases-loop : tie.decreases-loop-at
 decreases-loop text from first at₀ line₀ at line = length text - at
 
 -- at a line that is spelled well
-abbrev entry : tie.After-enum-told invariant-loop decreases-loop → Entry
-entry c = c.enum_told.given.0.0
+abbrev entry : tie.In_default invariant-loop decreases-loop → Entry
+entry c = c.in_default.field-0
 
-good : (c : tie.After-enum-told invariant-loop decreases-loop) → let head = c.before.before.before.before in
-    Good head.before.before.args.text.now head.loop.at head.loop.line c.before.before.before.loop-test.true (entry c)
+good : (c : tie.In_default invariant-loop decreases-loop) → Good c.args.text.now c.loop-at.at c.loop-at.line c.loop-at-test.true (entry c)
 good c =
-    let found = c.before.before in
-    let head = found.before.before in
-    good_line head.before.before.args.text.now head.loop.at head.loop.line found.before.loop-test.true (entry c)
-    (sym (ap (λ (l : Line). l.said) found.line_at_lem.ensures) ∙ c.enum_told.given.1)
+    good_line c.args.text.now c.loop-at.at c.loop-at.line c.loop-at-test.true (entry c)
+    (sym (ap (λ (l : Line). l.said) c.line_at-found.ensures) ∙ c.in_default.is)
 
-next : (c : tie.After-enum-told invariant-loop decreases-loop) → let head = c.before.before.before.before in
-    c.before.before.line_at_lem.result.next
-    ≡ (here head.before.before.args.text.now head.loop.at head.loop.line c.before.before.before.loop-test.true).next
-next c = ap (λ (l : Line). l.next) c.before.before.line_at_lem.ensures
+next : (c : tie.In_default invariant-loop decreases-loop) → c.line_at-found.result.next
+    ≡ (here c.args.text.now c.loop-at.at c.loop-at.line c.loop-at-test.true).next
+next c = ap (λ (l : Line). l.next) c.line_at-found.ensures
 
-loop-holds : tie.Need-loop-init invariant-loop decreases-loop
-loop-holds c = (c.before.requires.0, c.before.requires.1, refl)
+loop-holds : tie.Need-loop-at-init invariant-loop decreases-loop
+loop-holds c = (c.requires.0, c.requires.1, refl)
 
-returns : tie.Need-returns invariant-loop decreases-loop
+returns : tie.Need-returns-in-Bad invariant-loop decreases-loop
 returns c =
-    let told = c.before.before in
-    let found = told.before.before in
-    let head = found.before.before in
-    let text = head.before.before.args.text.now in
-    let here = sym (ap (λ (l : Line). l.said) found.line_at_lem.ensures) ∙ told.said.given.1 in
+    let text = c.args.text.now in
+    let here = sym (ap (λ (l : Line). l.said) c.line_at-found.ensures) ∙ c.in-Bad.is in
     c.on_line.ensures
-    ∙ sym (head.loop.invariant.2 ∙ ap why_of (bad_line text head.loop.at head.loop.line found.before.loop-test.true
-    told.said.given.0.0 here))
+    ∙ sym (c.loop-at.invariant.2 ∙ ap why_of (bad_line text c.loop-at.at c.loop-at.line c.loop-at-test.true
+    c.in-Bad.why here))
 
-add-line : tie.Need-overflow-add-line invariant-loop decreases-loop
+add-line : tie.Need-overflow_add-line invariant-loop decreases-loop
 add-line c =
-    let head = c.before.before.before.before in
-    record { fits = omega (arith, head.loop.invariant.1, c.before.before.before.loop-test.true, head.before.before.well-formed.0.0) }
+    record { fits = omega (arith, c.loop-at.invariant.1, c.loop-at-test.true, c.well_formed.0.0) }
 
-loop-less : tie.Need-loop-smaller invariant-loop decreases-loop
+loop-less : tie.Need-loop-at-smaller invariant-loop decreases-loop
 loop-less c = let g = good c in omega (arith, g.forth, g.within, next c)
 
-loop-again : tie.Need-loop-preserved invariant-loop decreases-loop
+loop-again : tie.Need-loop-at-preserved invariant-loop decreases-loop
 loop-again c =
-    let head = c.before.before.before.before in
-    let text = head.before.before.args.text.now in
+    let text = c.args.text.now in
     let g = good c in (
       omega (arith, g.within, next c),
-      omega (arith, head.loop.invariant.1, g.forth, next c),
-      head.loop.invariant.2 ∙ ap why_of g.says ∙ why_behind head.loop.line (entry c) (said_from (suc head.loop.line) (drop (here text
-          head.loop.at head.loop.line c.before.before.before.loop-test.true).next text))
-          ∙ rw (← next c, ← add-one head.loop.line),
+      omega (arith, c.loop-at.invariant.1, g.forth, next c),
+      c.loop-at.invariant.2 ∙ ap why_of g.says ∙ why_behind c.loop-at.line (entry c) (said_from (suc c.loop-at.line) (drop (here text
+          c.loop-at.at c.loop-at.line c.loop-at-test.true).next text))
+          ∙ rw (← next c, ← add-one c.loop-at.line),
     )
 
-returns_2 : tie.Need-returns-2 invariant-loop decreases-loop
+returns_2 : tie.Need-returns invariant-loop decreases-loop
 returns_2 c =
-    let head = c.before.before in
-    let text = head.before.before.args.text.now in
-    c.of.ensures ∙ sym (head.loop.invariant.2 ∙ ap why_of (no_line text head.loop.at head.loop.line c.before.loop-test.false))
+    let text = c.args.text.now in
+    c.of.ensures ∙ sym (c.loop-at.invariant.2 ∙ ap why_of (no_line text c.loop-at.at c.loop-at.line c.loop-at-test.false))
 
-pub bad-line-spec : {M : Type 1} → statement M
-bad-line-spec =
+pub bad_line_spec : {M : Type 1} → statement M
+bad_line_spec =
     tie.close
     (tie.spec
     invariant-loop

@@ -13,51 +13,40 @@ use borrow.Author.Rules.{rules}
 use Rattle.text.proofs.from_text.Statement.{statement}
 use Rattle.text.proofs.from_text.Tie as tie
 
--- where there is no refusal: the bytes to write
-abbrev gathered : tie.Else1 → tie.After-gather
-gathered c = c.before.before.before
-
-bytes_of : (c : tie.Else1) → let text = (gathered c).before.before.before.args.text.now in let got = (gathered c).gather.result in
+bytes_of : (c : tie.Else-why-ne0) → let text = c.args.text.now in let got = c.gather-got.result in
     (l : List ℕ) × (from_text text ≡ answered l) × (got.length ≡ length l) × (take (length l) got.bytes ≡ l)
 bytes_of c =
-    let got = gathered c in
-    let text = got.before.before.before.args.text.now in
-    let why = got.gather.ensures.why in
-    let told = told_answered text (sym (ap (λ (r : Refusal). r.number) why) ∙ c.if1.false) in
-    let holds = got.gather.ensures.bytes told.0 told.1 in
+    let text = c.args.text.now in
+    let why = c.gather-got.ensures.why in
+    let told = told_answered text (sym (ap (λ (r : Refusal). r.number) why) ∙ c.if-why-ne0.false) in
+    let holds = c.gather-got.ensures.bytes told.0 told.1 in
     (told.0, told.1, holds.0, holds.1)
 
-returns : tie.Need-returns
+returns : tie.Need-returns-then-why-ne0
 returns c =
-    let got = c.before.before.before in
-    let a = got.before.before.before.args in
-    let why = got.gather.ensures.why in
-    let refused = told_refused a.text.now (λ z. c.if1.true (ap (λ (r : Refusal). r.number) why ∙ z)) in
-    sends_none (from_text a.text.now) a.out.now got.gather.result.why (refused ∙ ap refusing (sym why))
+    let a = c.args in
+    let why = c.gather-got.ensures.why in
+    let refused = told_refused a.text.now (λ z. c.if-why-ne0.true (ap (λ (r : Refusal). r.number) why ∙ z)) in
+    sends_none (from_text a.text.now) a.out.now c.gather-got.result.why (refused ∙ ap refusing (sym why))
 
-returns_2 : tie.Need-returns-2
+returns_2 : tie.Need-returns-then-out-length
 returns_2 c =
-    let got = gathered c.before.before in
-    let a = got.before.before.before.args in
+    let a = c.args in
     let b = bytes_of c.before.before in
-    rw c.of.ensures (sends_short (from_text a.text.now) a.out.now b.0 b.1 (omega (arith, c.before.if2.true, b.2)))
+    rw c.of.ensures (sends_short (from_text a.text.now) a.out.now b.0 b.1 (omega (arith, c.if-out-length.true, b.2)))
 
 copy-requires : tie.Need-copy-requires
 copy-requires c κs =
-    let got = gathered c.before.before in
-    (got.gather.ensures.holds, c.before.if2.false)
+    (c.gather-got.ensures.holds, c.if-out-length.false)
 
-returns_3 : tie.Need-returns-3
+returns_3 : tie.Need-returns
 returns_3 c =
-    let copied = c.before.before in
-    let none = copied.before.before.before in
-    let got = gathered none in
-    let a = got.before.before.before.args in
-    let b = bytes_of none in
-    let sends = sends_all (from_text a.text.now) a.out.now b.0 b.1 (omega (arith, copied.before.before.if2.false, b.2)) in
-    (rw b.2 sends.0, copied.copy.ensures ∙ rw (b.2, b.3) sends.1)
+    let a = c.args in
+    let b = bytes_of c.before.before.before.before.before in
+    let sends = sends_all (from_text a.text.now) a.out.now b.0 b.1 (omega (arith, c.if-out-length.false, b.2)) in
+    (rw b.2 sends.0, c.copy.ensures ∙ rw (b.2, b.3) sends.1)
 
-pub from-text-spec : {M : Type 1} → statement M
-from-text-spec =
+pub from_text_spec : {M : Type 1} → statement M
+from_text_spec =
     tie.close
     (tie.spec (λ c κs. search rules) returns (λ c κs. search rules) returns_2 copy-requires (λ c. search rules) returns_3)

@@ -20,165 +20,126 @@ use borrow.Author.Rules.{rules}
 use Rattle.text.proofs.gather.Statement.{statement}
 use Rattle.text.proofs.gather.Tie as tie
 
-abbrev invariant-loop : tie.invariant-loop
+abbrev invariant-loop : tie.invariant-loop-at
 invariant-loop text bytes₀ length₀ tally₀ force₀ line₀ at₀ bytes length tally force line at = So text bytes length tally force line at
 
-abbrev decreases-loop : tie.decreases-loop
+abbrev decreases-loop : tie.decreases-loop-at
 decreases-loop text bytes₀ length₀ tally₀ force₀ line₀ at₀ bytes length tally force line at = type_size text - at
 
--- once a line is found: where it begins, in which text, and what it says
-abbrev head : tie.After-line-at invariant-loop decreases-loop → tie.At-loop invariant-loop decreases-loop
-head c = c.before.before
+abbrev text_at : tie.After-line_at-found invariant-loop decreases-loop → List ℕ
+text_at c = c.args.text.now
 
-abbrev text_at : tie.After-line-at invariant-loop decreases-loop → List ℕ
-text_at c = (head c).before.before.args.text.now
+inside : (c : tie.After-line_at-found invariant-loop decreases-loop) → c.loop-at.at < type_size (text_at c)
+inside c = c.loop-at-test.true
 
-inside : (c : tie.After-line-at invariant-loop decreases-loop) → (head c).loop.at < type_size (text_at c)
-inside c = c.before.loop-test.true
+abbrev line-here : tie.After-line_at-found invariant-loop decreases-loop → Line
+line-here c = here (text_at c) c.loop-at.at c.loop-at.line (inside c)
 
-abbrev line-here : tie.After-line-at invariant-loop decreases-loop → Line
-line-here c = here (text_at c) (head c).loop.at (head c).loop.line (inside c)
+next_is : (c : tie.After-line_at-found invariant-loop decreases-loop) → c.line_at-found.result.next ≡ (line-here c).next
+next_is c = ap (λ (l : Line). l.next) c.line_at-found.ensures
 
-next_is : (c : tie.After-line-at invariant-loop decreases-loop) → c.line_at_lem.result.next ≡ (line-here c).next
-next_is c = ap (λ (l : Line). l.next) c.line_at_lem.ensures
+abbrev entry_at : tie.In-Took invariant-loop decreases-loop → Entry
+entry_at c = c.in-Took.e
 
--- at a line that is spelled well
-abbrev spelt-at : tie.After-known-told invariant-loop decreases-loop → tie.After-line-at invariant-loop decreases-loop
-spelt-at c = c.before.before.before
-
-abbrev entry_at : tie.After-known-told invariant-loop decreases-loop → Entry
-entry_at c = c.before.said.given.0.0
-
-good_at : (c : tie.After-known-told invariant-loop decreases-loop) → let line = spelt-at c in
-    Good (text_at line) (head line).loop.at (head line).loop.line (inside line) (entry_at c)
+good_at : (c : tie.In-Took invariant-loop decreases-loop) → Good (text_at c.before) c.loop-at.at c.loop-at.line (inside c.before) (entry_at c)
 good_at c =
-    let line = spelt-at c in
-    good_line (text_at line) (head line).loop.at (head line).loop.line (inside line) (entry_at c)
-    (sym (ap (λ (l : Line). l.said) line.line_at_lem.ensures) ∙ c.before.said.given.1)
+    good_line (text_at c.before) c.loop-at.at c.loop-at.line (inside c.before) (entry_at c)
+    (sym (ap (λ (l : Line). l.said) c.line_at-found.ensures) ∙ c.in-Took.is)
 
-placed-line-requires : tie.Need-placed-line-requires invariant-loop decreases-loop
-placed-line-requires c κs = omega (arith, (good_at c).within, next_is (spelt-at c))
+placed-line-requires : tie.Need-placed_line-well-requires invariant-loop decreases-loop
+placed-line-requires c κs = omega (arith, (good_at c).within, next_is c.before)
 
--- and whose entry was judged
-abbrev told_at : tie.After-enter invariant-loop decreases-loop → tie.After-known-told invariant-loop decreases-loop
-told_at c = c.before.before
+abbrev entry : tie.After-enter-entered invariant-loop decreases-loop → Entry
+entry c = entry_at c.before.before
 
-abbrev found : tie.After-enter invariant-loop decreases-loop → tie.After-line-at invariant-loop decreases-loop
-found c = spelt-at (told_at c)
+good : (c : tie.After-enter-entered invariant-loop decreases-loop) → Good (text_at c.before.before.before) c.loop-at.at c.loop-at.line (inside c.before.before.before) (entry c)
+good c = good_at c.before.before
 
-abbrev entry : tie.After-enter invariant-loop decreases-loop → Entry
-entry c = entry_at (told_at c)
-
-good : (c : tie.After-enter invariant-loop decreases-loop) → Good (text_at (found c)) (head (found c)).loop.at (head (found c)).loop.line (inside (found c)) (entry c)
-good c = good_at (told_at c)
-
-abbrev says : tie.After-enter invariant-loop decreases-loop → Said Entry
-says c = said (head (found c)).loop.inv (inside (found c)) (entry c) (good c)
+abbrev says : tie.After-enter-entered invariant-loop decreases-loop → Said Entry
+says c = said c.loop-at.invariant (inside c.before.before.before) (entry c) (good c)
 
 -- what was said is what the code was told
-well : (c : tie.After-enter invariant-loop decreases-loop) → c.before.placed-line.result
-    ≡ placed (entry c) (head (found c)).loop.force (row_spelled (drop (line-here (found c)).next (text_at (found c))))
+well : (c : tie.After-enter-entered invariant-loop decreases-loop) → c.placed_line-well.result
+    ≡ placed (entry c) c.loop-at.force (row_spelled (drop (line-here c.before.before.before).next (text_at c.before.before.before)))
 well c =
-    c.before.placed-line.ensures
-    ∙ ap (λ (n : ℕ). placed (entry c) (head (found c)).loop.force (row_spelled (drop n (text_at (found c))))) (next_is (found c))
+    c.placed_line-well.ensures
+    ∙ ap (λ (n : ℕ). placed (entry c) c.loop-at.force (row_spelled (drop n (text_at c.before.before.before)))) (next_is c.before.before.before)
 
-judged_as : (c : tie.After-enter invariant-loop decreases-loop) → c.enter.result ≡ shown_entered (head (found c)).loop.tally (says c)
+judged_as : (c : tie.After-enter-entered invariant-loop decreases-loop) → c.enter-entered.result ≡ shown_entered c.loop-at.tally (says c)
 judged_as c =
-    let now = (head (found c)).loop in
-    c.enter.ensures ∙ ap (λ (g : Bool). shown_entered now.tally (permitted (entry c) g now.tally)) (well c)
+    c.enter-entered.ensures ∙ ap (λ (g : Bool). shown_entered c.loop-at.tally (permitted (entry c) g c.loop-at.tally)) (well c)
 
--- and that may stand there
-abbrev judged : tie.After-known-told2 invariant-loop decreases-loop → tie.After-enter invariant-loop decreases-loop
-judged c = c.before.before.before
-
-in_table : (c : tie.After-known-told2 invariant-loop decreases-loop) → let e = entry (judged c) in
-    (says (judged c) ≡ answered e) × (c.before.entered.given.0.0 ≡ one_more e.kind (head (found (judged c))).loop.tally)
+in_table : (c : tie.In-In invariant-loop decreases-loop) → let e = entry c.before in
+    (says c.before ≡ answered e) × (c.in-In.more ≡ one_more e.kind c.loop-at.tally)
 in_table c =
-    let now = (head (found (judged c))).loop in
-    entered (entry (judged c)) _ now.tally c.before.entered.given.0.0 (sym (judged_as (judged c)) ∙ c.before.entered.given.1)
+    entered (entry c.before) _ c.loop-at.tally c.in-In.more (sym (judged_as c.before) ∙ c.in-In.is)
 
-room : (c : tie.After-known-told2 invariant-loop decreases-loop) → (head (found (judged c))).loop.length + size_of (entry (judged c)) ≤ gather_limit
+room : (c : tie.In-In invariant-loop decreases-loop) → c.loop-at.length + size_of (entry c.before) ≤ gather_limit
 room c =
-    let now = (head (found (judged c))).loop in
-    let fit = has_room now.inv (inside (found (judged c))) (entry (judged c)) (good (judged c)) (entry (judged c)) (in_table c).0 in
-    omega (arith, fit, now.inv.there)
+    let fit = has_room c.loop-at.invariant (inside c.before.before.before.before) (entry c.before) (good c.before) (entry c.before) (in_table c).0 in
+    omega (arith, fit, c.loop-at.invariant.there)
 
-loop-holds : tie.Need-loop-init invariant-loop decreases-loop
-loop-holds c = at_start c.before.args.text.now _ refl
+loop-holds : tie.Need-loop-at-init invariant-loop decreases-loop
+loop-holds c = at_start c.args.text.now _ refl
 
-sub-put : tie.Need-overflow-sub-put invariant-loop decreases-loop
+sub-put : tie.Need-slice_bounds-put-count invariant-loop decreases-loop
 sub-put c = omega (arith, room c.before)
 
-part-bytes-start : tie.Need-slice-bounds-bytes-start invariant-loop decreases-loop
+part-bytes-start : tie.Need-slice_bounds-bytes-start invariant-loop decreases-loop
 part-bytes-start c = omega (arith, room c.before)
 
-add-length : tie.Need-overflow-add-length invariant-loop decreases-loop
+add-length : tie.Need-overflow_add-length invariant-loop decreases-loop
 add-length c =
-    let told = c.before.before.before.before in
-    record { fits = omega (arith, c.before.put.ensures.0, room told) }
+    record { fits = omega (arith, c.put-length.ensures.0, room c.before.before.before.before) }
 
-own-unless-requires : tie.Need-own-unless-requires invariant-loop decreases-loop
+own-unless-requires : tie.Need-own_unless-requires invariant-loop decreases-loop
 own-unless-requires c κs =
-    let at = c.before.before.before in
     let g = good at in
-    (omega (arith, g.within, next_is (found at)), omega (arith, (head (found at)).loop.inv.few, g.forth, next_is (found at)))
+    (omega (arith, g.within, next_is at), omega (arith, c.loop-at.invariant.few, g.forth, next_is at))
 
-returns : tie.Need-returns invariant-loop decreases-loop
+returns : tie.Need-returns-in-Out invariant-loop decreases-loop
 returns c =
-    let out = c.before.before in
-    let at = out.before.before.before in
-    let now = (head (found at)).loop in
-    let why = out.before.entered2.given.0.0 in
-    let kept = kept_out (says at) now.tally why (sym (judged_as at) ∙ out.before.entered2.given.1) in
-    let said = stopped now.inv (inside (found at)) (entry at) (good at) why kept in
-    rw (said, ← next_is (found at), ← c.before.own-unless.ensures) c.refused.ensures
+    let why = c.in-Out.why in
+    let kept = kept_out (says at) c.loop-at.tally why (sym (judged_as at) ∙ c.in-Out.is) in
+    let said = stopped c.loop-at.invariant (inside at) (entry at) (good at) why kept in
+    rw (said, ← next_is at, ← c.own_unless.ensures) c.refused.ensures
 
-returns_2 : tie.Need-returns-2 invariant-loop decreases-loop
+returns_2 : tie.Need-returns-in-Bad invariant-loop decreases-loop
 returns_2 c =
-    let told = c.before.before.before in
-    let line = told.before.before in
-    let now = (head line).loop in
-    let why = told.said2.given.0.0 in
-    let bad = bad_line (text_at line) now.at now.line (inside line) why (sym (ap (λ (l : Line). l.said) line.line_at_lem.ensures)
-    ∙ told.said2.given.1) in
-    rw (at_bad now.inv (refusal why.number now.line) bad, ← c.before.on_line.ensures) c.refused2.ensures
+    let why = c.in-Bad.why in
+    let bad = bad_line (text_at c.before.before.before) c.loop-at.at c.loop-at.line (inside c.before.before.before) why (sym (ap (λ (l : Line). l.said) c.line_at-found.ensures)
+    ∙ c.in-Bad.is) in
+    rw (at_bad c.loop-at.invariant (refusal why.number c.loop-at.line) bad, ← c.on_line.ensures) c.refused-in-Bad.ensures
 
-loop-less : tie.Need-loop-smaller invariant-loop decreases-loop
+loop-less : tie.Need-loop-at-smaller invariant-loop decreases-loop
 loop-less c =
-    let at = judged c.before.before.before.before in
     let g = good at in
-    omega (arith, g.forth, g.within, next_is (found at))
+    omega (arith, g.forth, g.within, next_is at)
 
-loop-again : tie.Need-loop-preserved invariant-loop decreases-loop
+loop-again : tie.Need-loop-at-preserved invariant-loop decreases-loop
 loop-again c =
-    let told = c.before.before.before.before in
-    let at = judged told in
-    let now = (head (found at)).loop in
     let e = entry at in
-    let put = c.before.put in
-    let may = in_table told in
-    let fit : now.length + size_of e ≤ type_size now.bytes = omega (arith, room told, now.inv.there) in
-    let k : gather_limit - now.length ≡ type_size now.bytes - now.length = omega (arith, now.inv.there) in
+    let may = in_table c.before.before.before.before in
+    let fit : c.loop-at.length + size_of e ≤ type_size c.loop-at.bytes = omega (arith, room c.before.before.before.before, c.loop-at.invariant.there) in
+    let k : gather_limit - c.loop-at.length ≡ type_size c.loop-at.bytes - c.loop-at.length = omega (arith, c.loop-at.invariant.there) in
     let more =
-    taken now.inv (inside (found at)) e (good at) e may.0 _
-    (put_length now.bytes e now.length fit (gather_limit - now.length) put.new.0 k put.ensures.1)
-    (put_front now.bytes e now.length fit (gather_limit - now.length) put.new.0 k put.ensures.1) in
-    so_as more _ _ _ _ (ap (λ (n : ℕ). now.length + n) put.ensures.0) may.1 c.before.before.before.behind.ensures (next_is (found at))
+    taken c.loop-at.invariant (inside at) e (good at) e may.0 _
+    (put_length c.loop-at.bytes e c.loop-at.length fit (gather_limit - c.loop-at.length) c.put-length.new.out k c.put-length.ensures.1)
+    (put_front c.loop-at.bytes e c.loop-at.length fit (gather_limit - c.loop-at.length) c.put-length.new.out k c.put-length.ensures.1) in
+    so_as more _ _ _ _ (ap (λ (n : ℕ). c.loop-at.length + n) c.put-length.ensures.0) may.1 c.behind-force.ensures (next_is at)
 
-returns_3 : tie.Need-returns-3 invariant-loop decreases-loop
+returns_3 : tie.Need-returns invariant-loop decreases-loop
 returns_3 c =
-    let done = c.before in
-    let now = done.before.loop in
-    let all = at_end now.invariant done.loop-test.false in
-    let short = open_short now.invariant.table _ now.invariant.stands in record {
-      holds = record { fits = omega (arith, now.invariant.long, short); there = omega (arith, now.invariant.there) };
-      why = c.of.ensures ∙ sym (ap why_of all);
-      bytes = λ l q. let one : encoded now.invariant.table ≡ l = cc (sym all ∙ q) in
-          rw (← one) (now.invariant.long, rw now.invariant.long at now.invariant.front);
+    let all = at_end c.loop-at.invariant c.loop-at-test.false in
+    let short = open_short c.loop-at.invariant.table _ c.loop-at.invariant.stands in record {
+      holds = record { fits = omega (arith, c.loop-at.invariant.long, short); there = omega (arith, c.loop-at.invariant.there) };
+      why = c.of-why.ensures ∙ sym (ap why_of all);
+      bytes = λ l q. let one : encoded c.loop-at.invariant.table ≡ l = cc (sym all ∙ q) in
+          rw (← one) (c.loop-at.invariant.long, rw c.loop-at.invariant.long at c.loop-at.invariant.front);
     }
 
-pub gather-spec : {M : Type 1} → statement M
-gather-spec =
+pub gather_spec : {M : Type 1} → statement M
+gather_spec =
     tie.close
     (tie.spec
     invariant-loop

@@ -8,23 +8,21 @@ use borrow.Author.Rules.{rules}
 use Rattle.text.proofs.own_unless.Statement.{statement}
 use Rattle.text.proofs.own_unless.Tie as tie
 
-add-bad-line : tie.Need-overflow-add-bad-line
-add-bad-line c = record { fits = omega (arith, c.before.requires.0, c.before.requires.1, c.before.well-formed.1.1.0.0) }
+add-bad-line : tie.Need-overflow_add-line
+add-bad-line c = record { fits = omega (arith, c.requires.0, c.requires.1, c.well_formed.1.1.0.0) }
 
-returns : tie.Need-returns
+returns : tie.Need-returns-then-bad-eq0
 returns c =
-    let late = c.before.before.before in
-    let a = late.before.before.args in
+    let a = c.args in
     c.on_line.ensures
-    ∙ sym (ap (own_unless (refusal a.why.number a.line)) (sym late.bad-line.ensures) ∙ rw (eq-eqb late.bad-line.result.number 0
-    c.before.if1.true))
+    ∙ sym (ap (own_unless (refusal a.why.number a.line)) (sym c.bad_line-bad.ensures) ∙ rw (eq-eqb c.bad_line-bad.result.number 0
+    c.if-bad-eq0.true))
 
-returns_2 : tie.Need-returns-2
+returns_2 : tie.Need-returns
 returns_2 c =
-    let late = c.before.before in
-    let a = late.before.before.args in
-    sym (ap (own_unless (refusal a.why.number a.line)) (sym late.bad-line.ensures) ∙ rw (ne_eqb late.bad-line.result.number 0 c.if1.false))
+    let a = c.args in
+    sym (ap (own_unless (refusal a.why.number a.line)) (sym c.bad_line-bad.ensures) ∙ rw (ne_eqb c.bad_line-bad.result.number 0 c.if-bad-eq0.false))
 
-pub own-unless-spec : {M : Type 1} → statement M
-own-unless-spec =
+pub own_unless_spec : {M : Type 1} → statement M
+own_unless_spec =
     tie.close (tie.spec add-bad-line (λ c κs. search rules) (λ c κs. search rules) returns returns_2)

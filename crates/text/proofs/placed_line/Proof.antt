@@ -4,24 +4,24 @@ use borrow.Author.Rules.{rules}
 use Rattle.text.proofs.placed_line.Statement.{statement}
 use Rattle.text.proofs.placed_line.Tie as tie
 
-returns : tie.Need-returns
+returns : tie.Need-returns-in-Row
 unfolding placed
-returns c = rw c.enum_told.given.1
+returns c = rw c.in-Row.is
 
-returns_2 : tie.Need-returns-2
+returns_2 : tie.Need-returns-in-Question
 unfolding placed
-returns_2 c = rw c.enum-told2.given.1
+returns_2 c = rw c.in-Question.is
 
-returns_3 : tie.Need-returns-3
+returns_3 : tie.Need-returns-in-Constraint
 unfolding placed
-returns_3 c = rw c.enum-told3.given.1
+returns_3 c = rw c.in-Constraint.is
 
-returns_4 : tie.Need-returns-4
+returns_4 : tie.Need-returns-in-Supplier
 unfolding placed
-returns_4 c = rw (c.before.before.enum-told4.given.1, c.row_Line.ensures)
+returns_4 c = rw (c.in-Supplier.is, c.row_line.ensures)
 
-pub placed-line-spec : {M : Type 1} → statement M
-placed-line-spec =
+pub placed_line_spec : {M : Type 1} → statement M
+placed_line_spec =
     tie.close
     (tie.spec
     (λ c. search rules)

@@ -11,53 +11,47 @@ use borrow.Author.Rules.{rules}
 use Rattle.text.proofs.text_size.Statement.{statement}
 use Rattle.text.proofs.text_size.Tie as tie
 
-abbrev invariant-loop : tie.invariant-loop
+abbrev invariant-loop : tie.invariant-loop-i
 invariant-loop t bound ruled count size₀ force₀ i₀ size force i =
     (i ≤ count) × (size ≡ length (text_to t i)) × (force ≡ in_force t i) × (size ≤ 128 * i)
 
-abbrev decreases-loop : tie.decreases-loop
+abbrev decreases-loop : tie.decreases-loop-i
 decreases-loop t bound ruled count size₀ force₀ i₀ size force i = count - i
 
-loop-holds : tie.Need-loop-init invariant-loop decreases-loop
+loop-holds : tie.Need-loop-i-init invariant-loop decreases-loop
 unfolding text_of marked last_of
 loop-holds c = (omega arith, refl, refl, omega arith)
 
-add-size : tie.Need-overflow-add-size invariant-loop decreases-loop
+add-size : tie.Need-overflow_add-size invariant-loop decreases-loop
 add-size c =
-    let head = c.before.before.before in
-    let start = head.before in
-    let fits = start.requires in
-    record { fits = omega (arith, head.loop.invariant.0, head.loop.invariant.3, c.lines-size.ensures.1, fits.bound_fit, fits.used_fit, fits.asked_fit) }
+    let fits = c.requires in
+    record { fits = omega (arith, c.loop-i.invariant.0, c.loop-i.invariant.3, c.lines_size-size.ensures.1, fits.bound_fit, fits.used_fit, fits.asked_fit) }
 
-loop-again : tie.Need-loop-preserved invariant-loop decreases-loop
+loop-again : tie.Need-loop-i-preserved invariant-loop decreases-loop
 loop-again c =
-    let join = c.before in
-    let head = join.before.before in
-    let start = head.before in
-    let i = head.loop.i in
-    let t = start.args.t1 in
-    let inv = head.loop.invariant in
-    let l : i < t.tally.constraints + t.tally.rows + t.tally.questions = omega (arith, join.before.loop-test.true) in
+    let i = c.loop-i.i in
+    let t = c.args.t in
+    let inv = c.loop-i.invariant in
+    let l : i < t.tally.constraints + t.tally.rows + t.tally.questions = omega (arith, c.loop-i-test.true) in
     let e =
-    unmarked_at t i join.if1.e l (λ w. (w.0.taken, w.3)) (λ w. (w.0.left, w.1.taken, w.5)) (λ w. (w.1.left, w.4)) join.if1.branch in
+    unmarked_at t i c.if-i-bound.e l (λ w. (w.0.taken, w.3)) (λ w. (w.0.left, w.1.taken, w.5)) (λ w. (w.1.left, w.4)) c.if-i-bound.branch in
     let s =
-    owner_at t i join.if1.s l (λ w. (w.0.taken, w.2 ∙ inv.2)) (λ w. (w.0.left, w.1.taken, w.4)) (λ w. (w.1.left, w.3 ∙ inv.2))
-    join.if1.branch in
-    let more = size_more t i join.if1.s head.loop.force join.if1.e l inv.2 s e in (
-      omega (arith, join.before.loop-test.true),
-      omega (arith, inv.1, c.lines-size.ensures.0, more),
-      force_behind t i join.if1.s head.loop.force join.if1.e l inv.2 s e,
-      omega (arith, inv.3, c.lines-size.ensures.1),
+    owner_at t i c.if-i-bound.s l (λ w. (w.0.taken, w.2 ∙ inv.2)) (λ w. (w.0.left, w.1.taken, w.4)) (λ w. (w.1.left, w.3 ∙ inv.2))
+    c.if-i-bound.branch in
+    let more = size_more t i c.if-i-bound.s c.loop-i.force c.if-i-bound.e l inv.2 s e in (
+      omega (arith, c.loop-i-test.true),
+      omega (arith, inv.1, c.lines_size-size.ensures.0, more),
+      force_behind t i c.if-i-bound.s c.loop-i.force c.if-i-bound.e l inv.2 s e,
+      omega (arith, inv.3, c.lines_size-size.ensures.1),
     )
 
 returns : tie.Need-returns invariant-loop decreases-loop
 returns c =
-    let now = c.before.loop in
-    let t = c.before.before.args.t1 in
-    now.invariant.1 ∙ ap length (text_all t now.i (omega (arith, now.invariant.0, c.loop-test.false)))
+    let t = c.args.t in
+    c.loop-i.invariant.1 ∙ ap length (text_all t c.loop-i.i (omega (arith, c.loop-i.invariant.0, c.loop-i-test.false)))
 
-pub text-size-spec : {M : Type 1} → statement M
-text-size-spec =
+pub text_size_spec : {M : Type 1} → statement M
+text_size_spec =
     tie.close
     (tie.spec
     invariant-loop

@@ -13,58 +13,48 @@ use Rattle.text.proofs.to_text.Statement.{statement}
 use Rattle.text.proofs.to_text.Tie as tie
 
 -- once the table was read: what it holds, and its text
-open_at : (c : tie.After-enum-told) → Opened c.before.before.before.before.before.args.table.now c.before.before.read.result
+open_at : (c : tie.In-Read) → Opened c.args.table.now c.read-got.result
 open_at c =
-    let got = c.before.before in
-    opened got.before.before.before.args.table.now got.read.result got.read.ensures c.enum_told.given.1
+    opened c.args.table.now c.read-got.result c.read-got.ensures c.in-Read.is
 
-fits : (c : tie.After-enum-told) → Fits c.before.before.read.result.table
+fits : (c : tie.In-Read) → Fits c.read-got.result.table
 fits c = let o = open_at c in rw o.table (table_fits o.contents o.whole)
 
-text_is : (c : tie.After-enum-told) →
-    to_text c.before.before.before.before.before.args.table.now ≡ answered (text_of (held c.before.before.read.result.table))
+text_is : (c : tie.In-Read) →
+    to_text c.args.table.now ≡ answered (text_of (held c.read-got.result.table))
 unfolding to_text
 text_is c =
     let o = open_at c in
     rw o.is (ap (λ (c : Contents). answered (text_of (entries c))) (sym (ap contents_in o.table ∙ contents_back o.contents o.whole)))
 
-returns : tie.Need-returns
+returns : tie.Need-returns-in_default
 unfolding to_text
 returns c =
-    let told = c.before in
-    let got = told.before.before in
-    let a = got.before.before.before.args in
-    let why = turned a.table.now got.read.result got.read.ensures told.enum-told2.given.1 in
-    sends_none (to_text a.table.now) a.out.now got.read.result.why (rw why)
+    let a = c.args in
+    let why = turned a.table.now c.read-got.result c.read-got.ensures c.in_default.is in
+    sends_none (to_text a.table.now) a.out.now c.read-got.result.why (rw why)
 
-text-size-requires : tie.Need-text-size-requires
+text-size-requires : tie.Need-text_size-requires
 text-size-requires c κs = fits c.before
 
-returns_2 : tie.Need-returns-2
+returns_2 : tie.Need-returns-then-out-text_size
 returns_2 c =
-    let size = c.before.before in
-    let told = size.before.before in
-    let a = told.before.before.before.before.before.args in
-    rw c.of.ensures (sends_short (to_text a.table.now) a.out.now _ (text_is told) (rw size.text-size.ensures at c.before.if1.true))
+    let a = c.args in
+    rw c.of.ensures (sends_short (to_text a.table.now) a.out.now _ (text_is c.before.before.before.before) (rw c.text_size.ensures at c.if-out-text_size.true))
 
 write-requires : tie.Need-write-requires
 write-requires c κs =
-    let size = c.before.before in
-    (fits size.before.before, rw size.text-size.ensures at c.before.if1.false)
+    (fits c.before.before.before.before, rw c.text_size.ensures at c.if-out-text_size.false)
 
-returns_3 : tie.Need-returns-3
+returns_3 : tie.Need-returns
 returns_3 c =
-    let wrote = c.before.before in
-    let room = wrote.before.before in
-    let size = room.before in
-    let told = size.before.before in
-    let a = told.before.before.before.before.before.args in
-    let w = wrote.write.ensures in
-    let sends = sends_all (to_text a.table.now) a.out.now _ (text_is told) (rw size.text-size.ensures at room.if1.false) in
+    let a = c.args in
+    let w = c.write.ensures in
+    let sends = sends_all (to_text a.table.now) a.out.now _ (text_is c.before.before.before.before.before.before.before) (rw c.text_size.ensures at c.if-out-text_size.false) in
     (rw w.0 sends.0, w.1 ∙ rw w.0 sends.1)
 
-pub to-text-spec : {M : Type 1} → statement M
-to-text-spec =
+pub to_text_spec : {M : Type 1} → statement M
+to_text_spec =
     tie.close
     (tie.spec
     (λ c κs. search rules)

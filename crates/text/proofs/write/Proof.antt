@@ -17,83 +17,70 @@ use borrow.Author.Rules.{rules}
 use Rattle.text.proofs.write.Statement.{statement}
 use Rattle.text.proofs.write.Tie as tie
 
-abbrev invariant-loop : tie.invariant-loop
+abbrev invariant-loop : tie.invariant-loop-i
 invariant-loop out₀ t bound ruled count at₀ force₀ i₀ out at force i =
     (i ≤ count) × (at ≡ length (text_to t i)) × (force ≡ in_force t i) × (out ≡ sets out₀ 0 (text_to t i))
 
-abbrev decreases-loop : tie.decreases-loop
+abbrev decreases-loop : tie.decreases-loop-i
 decreases-loop out₀ t bound ruled count at₀ force₀ i₀ out at force i = count - i
 
-loop-holds : tie.Need-loop-init invariant-loop decreases-loop
+loop-holds : tie.Need-loop-i-init invariant-loop decreases-loop
 unfolding text_of marked last_of
 loop-holds c = (omega arith, refl, refl, refl)
 
--- the entry at hand is the next that the table holds, and so is its supplier
-abbrev start-at : tie.Joined1 invariant-loop decreases-loop → tie.Start invariant-loop decreases-loop
-start-at c = c.before.before.before.before
+abbrev table_at : tie.Joined-i-bound invariant-loop decreases-loop → Table
+table_at c = c.args.t
 
-abbrev table_at : tie.Joined1 invariant-loop decreases-loop → Table
-table_at c = (start-at c).args.t1
+here : (c : tie.Joined-i-bound invariant-loop decreases-loop) → let t = table_at c in c.loop-i.i < t.tally.constraints + t.tally.rows + t.tally.questions
+here c = omega (arith, c.loop-i-test.true)
 
-here : (c : tie.Joined1 invariant-loop decreases-loop) → let t = table_at c in c.before.before.loop.i < t.tally.constraints + t.tally.rows + t.tally.questions
-here c = omega (arith, c.before.loop-test.true)
-
-entry_is : (c : tie.Joined1 invariant-loop decreases-loop) → c.if1.e ≡ get_or (unmarked (contents_in (table_at c))) c.before.before.loop.i blank
+entry_is : (c : tie.Joined-i-bound invariant-loop decreases-loop) → c.if-i-bound.e ≡ get_or (unmarked (contents_in (table_at c))) c.loop-i.i blank
 entry_is c =
-    unmarked_at (table_at c) c.before.before.loop.i c.if1.e (here c)
-    (λ w. (w.0.taken, w.3)) (λ w. (w.0.left, w.1.taken, w.5)) (λ w. (w.1.left, w.4)) c.if1.branch
+    unmarked_at (table_at c) c.loop-i.i c.if-i-bound.e (here c)
+    (λ w. (w.0.taken, w.3)) (λ w. (w.0.left, w.1.taken, w.5)) (λ w. (w.1.left, w.4)) c.if-i-bound.branch
 
-owner_is : (c : tie.Joined1 invariant-loop decreases-loop) → c.if1.s ≡ get_or (all_owners (contents_in (table_at c))) c.before.before.loop.i no_supplier
+owner_is : (c : tie.Joined-i-bound invariant-loop decreases-loop) → c.if-i-bound.s ≡ get_or (all_owners (contents_in (table_at c))) c.loop-i.i no_supplier
 owner_is c =
-    let force = c.before.before.loop.invariant.2 in
-    owner_at (table_at c) c.before.before.loop.i c.if1.s (here c)
-    (λ w. (w.0.taken, w.2 ∙ force)) (λ w. (w.0.left, w.1.taken, w.4)) (λ w. (w.1.left, w.3 ∙ force)) c.if1.branch
+    let force = c.loop-i.invariant.2 in
+    owner_at (table_at c) c.loop-i.i c.if-i-bound.s (here c)
+    (λ w. (w.0.taken, w.2 ∙ force)) (λ w. (w.0.left, w.1.taken, w.4)) (λ w. (w.1.left, w.3 ∙ force)) c.if-i-bound.branch
 
-put-lines-requires : tie.Need-put-lines-requires invariant-loop decreases-loop
+put-lines-requires : tie.Need-put_lines-at-requires invariant-loop decreases-loop
 put-lines-requires c κs =
-    let join = c.before in
-    let head = join.before.before in
-    let start = start-at join in
-    let i = head.loop.i in
-    let t = start.args.t1 in
-    let inv = head.loop.invariant in
-    let long = length-sets start.args.out.now 0 (text_to t i) in
-    let more = size_more t i join.if1.s head.loop.force join.if1.e (here join) inv.2 (owner_is join) (entry_is join) in
-    omega (arith, inv.1, ap length inv.3, long, more, text_within t (i + 1) (omega (arith, here join)), start.pre.1)
+    let i = c.loop-i.i in
+    let t = c.args.t in
+    let inv = c.loop-i.invariant in
+    let long = length-sets c.args.out.now 0 (text_to t i) in
+    let more = size_more t i c.if-i-bound.s c.loop-i.force c.if-i-bound.e (here c.before) inv.2 (owner_is c.before) (entry_is c.before) in
+    omega (arith, inv.1, ap length inv.3, long, more, text_within t (i + 1) (omega (arith, here c.before)), c.requires.1)
 
-loop-again : tie.Need-loop-preserved invariant-loop decreases-loop
+loop-again : tie.Need-loop-i-preserved invariant-loop decreases-loop
 loop-again c =
-    let put = c.before.before in
-    let join = put.before.before in
-    let head = join.before.before in
-    let start = start-at join in
-    let i = head.loop.i in
-    let t = start.args.t1 in
-    let inv = head.loop.invariant in
-    let s = join.if1.s in
-    let e = join.if1.e in
-    let p = put.put-lines.ensures in
-    let turn = text_of (change head.loop.force s ++ (e ∷ [])) in (
-      omega (arith, join.before.loop-test.true),
-      omega (arith, p.0, inv.1, size_more t i s head.loop.force e (here join) inv.2 (owner_is join) (entry_is join)),
-      force_behind t i s head.loop.force e (here join) inv.2 (owner_is join) (entry_is join),
-      p.1 ∙ rw (inv.3, inv.1, text_more t i s head.loop.force e (here join) inv.2 (owner_is join) (entry_is join))
-          (from_front start.args.out.now (text_to t i) turn),
+    let i = c.loop-i.i in
+    let t = c.args.t in
+    let inv = c.loop-i.invariant in
+    let s = c.if-i-bound.s in
+    let e = c.if-i-bound.e in
+    let p = c.put_lines-at.ensures in
+    let turn = text_of (change c.loop-i.force s ++ (e ∷ [])) in (
+      omega (arith, c.loop-i-test.true),
+      omega (arith, p.0, inv.1, size_more t i s c.loop-i.force e (here c.before.before.before.before) inv.2 (owner_is c.before.before.before.before) (entry_is c.before.before.before.before)),
+      force_behind t i s c.loop-i.force e (here c.before.before.before.before) inv.2 (owner_is c.before.before.before.before) (entry_is c.before.before.before.before),
+      p.1 ∙ rw (inv.3, inv.1, text_more t i s c.loop-i.force e (here c.before.before.before.before) inv.2 (owner_is c.before.before.before.before) (entry_is c.before.before.before.before))
+          (from_front c.args.out.now (text_to t i) turn),
     )
 
-same_length : tie.Need-same-length invariant-loop decreases-loop
+same_length : tie.Need-shape_of-out invariant-loop decreases-loop
 same_length c =
-    let start = c.before.before.before in
-    ap length c.before.loop.invariant.3 ∙ length-sets start.args.out.now 0 (text_to start.args.t1 c.before.loop.i)
+    ap length c.loop-i.invariant.3 ∙ length-sets c.args.out.now 0 (text_to c.args.t c.loop-i.i)
 
 returns : tie.Need-returns invariant-loop decreases-loop
 returns c =
-    let start = c.before.before.before in
-    let t = start.args.t1 in
-    let inv = c.before.loop.invariant in
-    let all = text_all t c.before.loop.i (omega (arith, inv.0, c.loop-test.false)) in
+    let t = c.args.t in
+    let inv = c.loop-i.invariant in
+    let all = text_all t c.loop-i.i (omega (arith, inv.0, c.loop-i-test.false)) in
     let n = inv.1 ∙ ap length all in
-    (n, inv.3 ∙ ap (sets start.args.out.now 0) all ∙ sets_front (text_of (held t)) start.args.out.now start.requires.1 ∙ rw n)
+    (n, inv.3 ∙ ap (sets c.args.out.now 0) all ∙ sets_front (text_of (held t)) c.args.out.now c.requires.1 ∙ rw n)
 
 pub write_spec : {M : Type 1} → statement M
 write_spec =

@@ -21,48 +21,48 @@ image : (f : Decision → Decision → Decision) (c : tie.Start) →
     (image_two f false (of_mask decisions c.args.s) (of_mask decisions c.args.t))
 image f c = in_words decisions decisions (omega arith) (image_two f false) c.args.s c.args.t
 
-returns : tie.Need-returns
+returns : tie.Need-returns-in-TruthMeet
 unfolding mask of_mask bit choosing image_one image_two
-returns c = rw c.before.enum_told.given.1 (c.digit.ensures ∙ image truth_meet c.before.before.before)
+returns c = rw c.in-TruthMeet.is (c.digit.ensures ∙ image truth_meet c.before.before.before.before)
 
-returns_2 : tie.Need-returns-2
+returns_2 : tie.Need-returns-in-TruthJoin
 unfolding mask of_mask bit choosing image_one image_two
-returns_2 c = rw c.before.enum-told2.given.1 (c.digit2.ensures ∙ image truth_join c.before.before.before)
+returns_2 c = rw c.in-TruthJoin.is (c.digit-in-TruthJoin.ensures ∙ image truth_join c.before.before.before.before)
 
-returns_3 : tie.Need-returns-3
+returns_3 : tie.Need-returns-in-KnowledgeMeet
 unfolding mask of_mask bit choosing image_one image_two
-returns_3 c = rw c.before.enum-told3.given.1 (c.digit3.ensures ∙ image knowledge_meet c.before.before.before)
+returns_3 c = rw c.in-KnowledgeMeet.is (c.digit-in-KnowledgeMeet.ensures ∙ image knowledge_meet c.before.before.before.before)
 
-returns_4 : tie.Need-returns-4
+returns_4 : tie.Need-returns-in-KnowledgeJoin
 unfolding mask of_mask bit choosing image_one image_two
-returns_4 c = rw c.before.enum-told4.given.1 (c.digit4.ensures ∙ image knowledge_join c.before.before.before)
+returns_4 c = rw c.in-KnowledgeJoin.is (c.digit-in-KnowledgeJoin.ensures ∙ image knowledge_join c.before.before.before.before)
 
-returns_5 : tie.Need-returns-5
+returns_5 : tie.Need-returns-in-Implication
 unfolding mask of_mask bit choosing image_one image_two
-returns_5 c = rw c.before.enum-told5.given.1 (c.digit5.ensures ∙ image implication c.before.before.before)
+returns_5 c = rw c.in-Implication.is (c.digit-in-Implication.ensures ∙ image implication c.before.before.before.before)
 
-returns-6 : tie.Need-returns-6
+returns-6 : tie.Need-returns-in-Guard
 unfolding mask of_mask bit choosing image_one image_two
-returns-6 c = rw c.before.enum-told6.given.1 (c.digit6.ensures ∙ image guard c.before.before.before)
+returns-6 c = rw c.in-Guard.is (c.digit-in-Guard.ensures ∙ image guard c.before.before.before.before)
 
-returns-7 : tie.Need-returns-7
+returns-7 : tie.Need-returns-in-OverrideU
 unfolding mask of_mask bit choosing image_one image_two
-returns-7 c = rw c.before.enum-told7.given.1 (c.digit7.ensures ∙ image (override U) c.before.before.before)
+returns-7 c = rw c.in-OverrideU.is (c.digit-in-OverrideU.ensures ∙ image (override U) c.before.before.before.before)
 
-returns_8 : tie.Need-returns-8
+returns_8 : tie.Need-returns-in-OverrideD
 unfolding mask of_mask bit choosing image_one image_two
-returns_8 c = rw c.before.enum-told8.given.1 (c.digit8.ensures ∙ image (override D) c.before.before.before)
+returns_8 c = rw c.in-OverrideD.is (c.digit-in-OverrideD.ensures ∙ image (override D) c.before.before.before.before)
 
-returns_9 : tie.Need-returns-9
+returns_9 : tie.Need-returns-in-OverrideG
 unfolding mask of_mask bit choosing image_one image_two
-returns_9 c = rw c.before.enum-told9.given.1 (c.digit9.ensures ∙ image (override G) c.before.before.before)
+returns_9 c = rw c.in-OverrideG.is (c.digit-in-OverrideG.ensures ∙ image (override G) c.before.before.before.before)
 
-returns_10 : tie.Need-returns-10
+returns_10 : tie.Need-returns-in-OverrideC
 unfolding mask of_mask bit choosing image_one image_two
-returns_10 c = rw c.before.enum-told10.given.1 (c.digit10.ensures ∙ image (override C) c.before.before.before)
+returns_10 c = rw c.in-OverrideC.is (c.digit-in-OverrideC.ensures ∙ image (override C) c.before.before.before.before)
 
-pub image-apart-spec : {M : Type 1} → statement M
-image-apart-spec =
+pub image_apart_spec : {M : Type 1} → statement M
+image_apart_spec =
     tie.close
     (tie.spec
     (λ c. search rules)

@@ -10,32 +10,32 @@ use borrow.Author.Rules.{rules}
 use Rattle.possible.proofs.sets.image_one.Statement.{statement}
 use Rattle.possible.proofs.sets.image_one.Tie as tie
 
-returns : tie.Need-returns
+returns : tie.Need-returns-in-Negation
 unfolding mask of_mask bit choosing image_one
 returns c =
-    let a = c.before.before.before.args in
-    rw c.before.enum_told.given.1 (c.digit.ensures ∙ in_word decisions decisions (omega arith) (image_one negation) a.s)
+    let a = c.args in
+    rw c.in-Negation.is (c.digit.ensures ∙ in_word decisions decisions (omega arith) (image_one negation) a.s)
 
-returns_2 : tie.Need-returns-2
+returns_2 : tie.Need-returns-in-Conflation
 unfolding mask of_mask bit choosing image_one
 returns_2 c =
-    let a = c.before.before.before.args in
-    rw c.before.enum-told2.given.1 (c.digit2.ensures ∙ in_word decisions decisions (omega arith) (image_one conflation) a.s)
+    let a = c.args in
+    rw c.in-Conflation.is (c.digit-in-Conflation.ensures ∙ in_word decisions decisions (omega arith) (image_one conflation) a.s)
 
-returns_3 : tie.Need-returns-3
+returns_3 : tie.Need-returns-in-ClosedDefault
 unfolding mask of_mask bit choosing image_one
 returns_3 c =
-    let a = c.before.before.before.args in
-    rw c.before.enum-told3.given.1 (c.digit3.ensures ∙ in_word decisions decisions (omega arith) (image_one closed_default) a.s)
+    let a = c.args in
+    rw c.in-ClosedDefault.is (c.digit-in-ClosedDefault.ensures ∙ in_word decisions decisions (omega arith) (image_one closed_default) a.s)
 
-returns_4 : tie.Need-returns-4
+returns_4 : tie.Need-returns-in-OpenDefault
 unfolding mask of_mask bit choosing image_one
 returns_4 c =
-    let a = c.before.before.before.args in
-    rw c.before.enum-told4.given.1 (c.digit4.ensures ∙ in_word decisions decisions (omega arith) (image_one open_default) a.s)
+    let a = c.args in
+    rw c.in-OpenDefault.is (c.digit-in-OpenDefault.ensures ∙ in_word decisions decisions (omega arith) (image_one open_default) a.s)
 
-pub image-one-spec : {M : Type 1} → statement M
-image-one-spec =
+pub image_one_spec : {M : Type 1} → statement M
+image_one_spec =
     tie.close
     (tie.spec
     (λ c. search rules)

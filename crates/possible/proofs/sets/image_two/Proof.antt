@@ -7,14 +7,14 @@ use borrow.Author.Rules.{rules}
 use Rattle.possible.proofs.sets.image_two.Statement.{statement}
 use Rattle.possible.proofs.sets.image_two.Tie as tie
 
-returns : tie.Need-returns
+returns : tie.Need-returns-then-equal
 returns c =
-    let a = c.before.before.args in
+    let a = c.args in
     let itself = two_itself decisions (two a.op) (of_mask decisions a.s) (of_mask decisions a.t) in
-    rw c.before.if1.true (c.image-itself.ensures ∙ ap (mask decisions) (sym itself))
+    rw c.if-equal.true (c.image_itself.ensures ∙ ap (mask decisions) (sym itself))
 
-returns_2 : tie.Need-returns-2
-returns_2 c = rw c.before.if1.false c.image-apart.ensures
+returns_2 : tie.Need-returns-else-equal
+returns_2 c = rw c.if-equal.false c.image_apart.ensures
 
-pub image-two-spec : {M : Type 1} → statement M
-image-two-spec = tie.close (tie.spec (λ c κs. search rules) (λ c κs. search rules) returns returns_2)
+pub image_two_spec : {M : Type 1} → statement M
+image_two_spec = tie.close (tie.spec (λ c κs. search rules) (λ c κs. search rules) returns returns_2)

@@ -4,23 +4,23 @@ use borrow.Author.Rules.{rules}
 use Rattle.possible.proofs.sets.perhaps.Statement.{statement}
 use Rattle.possible.proofs.sets.perhaps.Tie as tie
 
-returns : tie.Need-returns
+returns : tie.Need-returns-in-U
 unfolding mask
-returns c = rw c.enum_told.given.1
+returns c = rw c.in-U.is
 
-returns_2 : tie.Need-returns-2
+returns_2 : tie.Need-returns-in-D
 unfolding mask
-returns_2 c = rw c.enum-told2.given.1
+returns_2 c = rw c.in-D.is
 
-returns_3 : tie.Need-returns-3
+returns_3 : tie.Need-returns-in-G
 unfolding mask
-returns_3 c = rw c.enum-told3.given.1
+returns_3 c = rw c.in-G.is
 
-returns_4 : tie.Need-returns-4
+returns_4 : tie.Need-returns-in-C
 unfolding mask
-returns_4 c = rw c.enum-told4.given.1
+returns_4 c = rw c.in-C.is
 
-pub perhaps-spec : {M : Type 1} → statement M
-perhaps-spec =
+pub perhaps_spec : {M : Type 1} → statement M
+perhaps_spec =
     tie.close
     (tie.spec (λ c. search rules) (λ c. search rules) (λ c. search rules) (λ c. search rules) returns returns_2 returns_3 returns_4)

@@ -18,55 +18,46 @@ use Rattle.text.proofs.lines.line_at.Statement.{statement}
 use Rattle.text.proofs.lines.line_at.Tie as tie
 
 -- what is said of the line itself, and of one that misses its line feed
-said : (c : tie.After-line-of) → let a = c.before.before.before.before.args in
-    c.Line-of.result ≡ shown_step (line_says (split line_feed (drop a.at a.text.now)).first)
+said : (c : tie.After-line_of-said) → let a = c.args in
+    c.line_of-said.result ≡ shown_step (line_says (split line_feed (drop a.at a.text.now)).first)
 said c =
-    let end = c.before.before in
-    let a = end.before.before.args in
-    c.Line-of.ensures
-    ∙ ap (λ (l : List ℕ). shown_step (line_says l)) (piece_between line_feed a.text.now a.at end.next_of.result end.next_of.ensures)
+    let a = c.args in
+    c.line_of-said.ensures
+    ∙ ap (λ (l : List ℕ). shown_step (line_says l)) (piece_between line_feed a.text.now a.at c.next_of-end.result c.next_of-end.ensures)
 
 abbrev misses : Said Entry → Step
 misses x = shown_step (and_then x (λ e. refusing (refusal misspelt 0)))
 
-part-line-of-end : tie.Need-slice-bounds-line-of-end
+part-line-of-end : tie.Need-slice_bounds-line_of-end
 part-line-of-end c =
-    let start = c.before.before in
-    end_within start.args.text.now start.args.at c.next_of.result c.next_of.ensures (omega (arith, start.requires))
+    end_within c.args.text.now c.args.at c.next_of-end.result c.next_of-end.ensures (omega (arith, c.requires))
 
-returns : tie.Need-returns
+returns : tie.Need-returns-then-end-text
 returns c =
-    let line = c.before in
-    let end = line.before.before in
-    let a = end.before.before.args in
-    ap (λ (s : Step). record { said = s; next = end.next_of.result + 1 }) (said line)
-    ∙ sym (line_whole a.text.now a.at end.next_of.result end.next_of.ensures c.if1.true)
+    let a = c.args in
+    ap (λ (s : Step). record { said = s; next = c.next_of-end.result + 1 }) (said c.before)
+    ∙ sym (line_whole a.text.now a.at c.next_of-end.result c.next_of-end.ensures c.if-end-text.true)
 
-returns_2 : tie.Need-returns-2
+returns_2 : tie.Need-returns-in-Took
 unfolding shown_step
 returns_2 c =
-    let told = c.before in
-    let line = told.before.before.before in
-    let end = line.before.before in
-    let a = end.before.before.args in
-    let was = took (line_says (split line_feed (drop a.at a.text.now)).first) told.enum_told.given.0.0 (sym (said line)
-    ∙ told.enum_told.given.1) in
-    ap (λ (s : Step). record { said = s; next = end.next_of.result }) (c.bad.ensures ∙ sym (ap misses was))
-    ∙ sym (line_last a.text.now a.at end.next_of.result end.next_of.ensures told.before.before.if1.false)
+    let a = c.args in
+    let was = took (line_says (split line_feed (drop a.at a.text.now)).first) c.in-Took.field-0 (sym (said c.before.before.before)
+    ∙ c.in-Took.is) in
+    ap (λ (s : Step). record { said = s; next = c.next_of-end.result }) (c.bad-said.ensures ∙ sym (ap misses was))
+    ∙ sym (line_last a.text.now a.at c.next_of-end.result c.next_of-end.ensures c.if-end-text.false)
 
-returns_3 : tie.Need-returns-3
+returns_3 : tie.Need-returns-in-Bad
 unfolding shown_step
 returns_3 c =
-    let line = c.before.before.before in
-    let end = line.before.before in
-    let a = end.before.before.args in
-    let was = turned_away (line_says (split line_feed (drop a.at a.text.now)).first) c.enum-told2.given.0.0 (sym (said line)
-    ∙ c.enum-told2.given.1) in
-    ap (λ (s : Step). record { said = s; next = end.next_of.result }) (c.enum-told2.given.1 ∙ sym (ap misses was))
-    ∙ sym (line_last a.text.now a.at end.next_of.result end.next_of.ensures c.before.before.if1.false)
+    let a = c.args in
+    let was = turned_away (line_says (split line_feed (drop a.at a.text.now)).first) c.in-Bad.field-0 (sym (said c.before.before)
+    ∙ c.in-Bad.is) in
+    ap (λ (s : Step). record { said = s; next = c.next_of-end.result }) (c.in-Bad.is ∙ sym (ap misses was))
+    ∙ sym (line_last a.text.now a.at c.next_of-end.result c.next_of-end.ensures c.if-end-text.false)
 
-pub line-at-spec : {M : Type 1} → statement M
-line-at-spec =
+pub line_at_spec : {M : Type 1} → statement M
+line_at_spec =
     tie.close
     (tie.spec
     (λ c κs. search rules)

@@ -13,39 +13,32 @@ use borrow.Author.Rules.{rules}
 use Rattle.text.proofs.lines.line_of.Statement.{statement}
 use Rattle.text.proofs.lines.line_of.Tie as tie
 
-part-kind-of-word-end : tie.Need-slice-bounds-kind-of-word-end
-part-kind-of-word-end c = omega (arith, c.next_of.ensures, first_within space c.before.before.args.line.now)
+part-kind-of-word-end : tie.Need-slice_bounds-kind_of_word-end
+part-kind-of-word-end c = omega (arith, c.next_of-end.ensures, first_within space c.args.line.now)
 
-numbers-at-requires : tie.Need-numbers-at-requires
+numbers-at-requires : tie.Need-numbers_at-requires
 numbers-at-requires c κs =
-    let end = c.before.before.before.before.before in
-    omega (arith, end.next_of.ensures, first_within space end.before.before.args.line.now)
+    omega (arith, c.next_of-end.ensures, first_within space c.args.line.now)
 
-returns : tie.Need-returns
+returns : tie.Need-returns-in-Listed
 returns c =
-    let told = c.before.before in
-    let word = told.before.before in
-    let end = word.before.before in
-    let line = end.before.before.args.line.now in
-    let rest = pieces_behind space (drop end.next_of.result line) in
-    c.numbers-at.ensures
-    ∙ ap (λ (a : Announced). shown_step (line_by a rest)) (sym told.announced.given.1 ∙ word.kind-of-word.ensures)
-    ∙ ap shown_step (sym (line_cut line end.next_of.result end.next_of.ensures))
+    let line = c.args.line.now in
+    let rest = pieces_behind space (drop c.next_of-end.result line) in
+    c.numbers_at.ensures
+    ∙ ap (λ (a : Announced). shown_step (line_by a rest)) (sym c.in-Listed.is ∙ c.kind_of_word-announced.ensures)
+    ∙ ap shown_step (sym (line_cut line c.next_of-end.result c.next_of-end.ensures))
 
-returns_2 : tie.Need-returns-2
+returns_2 : tie.Need-returns-in-Unlisted
 unfolding shown_step
 returns_2 c =
-    let told = c.before in
-    let word = told.before.before in
-    let end = word.before.before in
-    let line = end.before.before.args.line.now in
-    let rest = pieces_behind space (drop end.next_of.result line) in
+    let line = c.args.line.now in
+    let rest = pieces_behind space (drop c.next_of-end.result line) in
     c.bad.ensures
-    ∙ ap (λ (a : Announced). shown_step (line_by a rest)) (sym told.enum_told.given.1 ∙ word.kind-of-word.ensures)
-    ∙ ap shown_step (sym (line_cut line end.next_of.result end.next_of.ensures))
+    ∙ ap (λ (a : Announced). shown_step (line_by a rest)) (sym c.in-Unlisted.is ∙ c.kind_of_word-announced.ensures)
+    ∙ ap shown_step (sym (line_cut line c.next_of-end.result c.next_of-end.ensures))
 
-pub line-of-spec : {M : Type 1} → statement M
-line-of-spec =
+pub line_of_spec : {M : Type 1} → statement M
+line_of_spec =
     tie.close
     (tie.spec
     (λ c κs. search rules)

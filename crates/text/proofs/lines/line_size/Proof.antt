@@ -9,43 +9,40 @@ use borrow.Author.Rules.{rules}
 use Rattle.text.proofs.lines.line_size.Statement.{statement}
 use Rattle.text.proofs.lines.line_size.Tie as tie
 
-add-result : tie.Need-overflow-add-result
+add-result : tie.Need-overflow_add-result
 unfolding shown_word
 add-result c =
-    let word = c.before.before in
     record {
       fits = omega (
         arith,
-        c.before.numbers-size.ensures.1,
-        word_short word.before.args.e.kind,
+        c.numbers_size.ensures.1,
+        word_short c.args.e.kind,
         ap (λ (w : Word). w.length)
-            word.word_of.ensures,
+            c.word_of-word.ensures,
       );
     }
 
-add-result-2 : tie.Need-overflow-add-result-2
+add-result-2 : tie.Need-overflow_add-result-2
 unfolding shown_word
 add-result-2 c =
-    let word = c.before.before in
     record {
       fits = omega (
         arith,
-        c.before.numbers-size.ensures.1,
-        word_short word.before.args.e.kind,
+        c.numbers_size.ensures.1,
+        word_short c.args.e.kind,
         ap (λ (w : Word). w.length)
-            word.word_of.ensures,
+            c.word_of-word.ensures,
       );
     }
 
 returns : tie.Need-returns
 unfolding shown_word
 returns c =
-    let word = c.before.before in
-    let e = word.before.args.e in
-    let long = ap (λ (w : Word). w.length) word.word_of.ensures in
-    let size = c.before.numbers-size.ensures in
+    let e = c.args.e in
+    let long = ap (λ (w : Word). w.length) c.word_of-word.ensures in
+    let size = c.numbers_size.ensures in
     (omega (arith, line_long e, long, size.0), omega (arith, long, size.1, word_short e.kind))
 
-pub line-size-spec : {M : Type 1} → statement M
-line-size-spec =
+pub line_size_spec : {M : Type 1} → statement M
+line_size_spec =
     tie.close (tie.spec (λ c κs. search rules) (λ c κs. search rules) add-result add-result-2 returns)

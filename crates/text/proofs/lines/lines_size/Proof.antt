@@ -10,23 +10,22 @@ use borrow.Author.Rules.{rules}
 use Rattle.text.proofs.lines.lines_size.Statement.{statement}
 use Rattle.text.proofs.lines.lines_size.Tie as tie
 
-returns : tie.Need-returns
+returns : tie.Need-returns-then-s-force
 returns c =
-    let start = c.before.before.args in
-    (rw (same_lines start.force start.s start.e c.before.if1.true) c.line-size.ensures.0, omega (arith, c.line-size.ensures.1))
+    let start = c.args in
+    (rw (same_lines start.force start.s start.e c.if-s-force.true) c.line_size.ensures.0, omega (arith, c.line_size.ensures.1))
 
-returns_2 : tie.Need-returns-2
+returns_2 : tie.Need-returns
 returns_2 c =
-    let first = c.before in
-    let start = first.before.before.before.args in
-    let own = first.line-size2.ensures.0 ∙ ap (λ (e : Entry). length (line_of e)) first.before.supplying.ensures in
-    let both = other_lines start.force start.s start.e first.before.before.if1.false in (
-      rw both (omega (arith, own, c.line-size3.ensures.0, length-append (line_of (supplying start.s)) (line_of start.e))),
-      omega (arith, first.line-size2.ensures.1, c.line-size3.ensures.1),
+    let start = c.args in
+    let own = c.line_size-2.ensures.0 ∙ ap (λ (e : Entry). length (line_of e)) c.supplying.ensures in
+    let both = other_lines start.force start.s start.e c.if-s-force.false in (
+      rw both (omega (arith, own, c.line_size-3.ensures.0, length-append (line_of (supplying start.s)) (line_of start.e))),
+      omega (arith, c.line_size-2.ensures.1, c.line_size-3.ensures.1),
     )
 
-pub lines-size-spec : {M : Type 1} → statement M
-lines-size-spec =
+pub lines_size_spec : {M : Type 1} → statement M
+lines_size_spec =
     tie.close
     (tie.spec
     (λ c κs. search rules)

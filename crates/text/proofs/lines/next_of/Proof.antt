@@ -9,39 +9,36 @@ use borrow.Author.Rules.{rules}
 use Rattle.text.proofs.lines.next_of.Statement.{statement}
 use Rattle.text.proofs.lines.next_of.Tie as tie
 
-abbrev invariant-loop : tie.invariant-loop
+abbrev invariant-loop : tie.invariant-loop-i
 invariant-loop s from separator i₀ i =
     (i ≤ length s) × (from + length (split separator (drop from s)).first ≡ i + length (split separator (drop i s)).first)
 
-abbrev decreases-loop : tie.decreases-loop
+abbrev decreases-loop : tie.decreases-loop-i
 decreases-loop s from separator i₀ i = length s - i
 
-loop-holds : tie.Need-loop-init invariant-loop decreases-loop
+loop-holds : tie.Need-loop-i-init invariant-loop decreases-loop
 loop-holds c = (c.requires, refl)
 
-returns : tie.Need-returns invariant-loop decreases-loop
+returns : tie.Need-returns-then-s-i invariant-loop decreases-loop
 returns c =
-    let head = c.before.before.before in
-    let start = head.before.args in
-    let none = first_here start.separator start.s.now head.loop.i c.before.before.loop-test.true c.if1.true in
-    omega (arith, head.loop.invariant.1, none)
+    let start = c.args in
+    let none = first_here start.separator start.s.now c.loop-i.i c.loop-i-test.true c.if-s-i.true in
+    omega (arith, c.loop-i.invariant.1, none)
 
-loop-again : tie.Need-loop-preserved invariant-loop decreases-loop
+loop-again : tie.Need-loop-i-preserved invariant-loop decreases-loop
 loop-again c =
-    let head = c.before.before.before in
-    let start = head.before.args in
-    let more = first_past start.separator start.s.now head.loop.i c.before.before.loop-test.true c.if1.false in
-    (omega (arith, c.before.before.loop-test.true), omega (arith, head.loop.invariant.1, more))
+    let start = c.args in
+    let more = first_past start.separator start.s.now c.loop-i.i c.loop-i-test.true c.if-s-i.false in
+    (omega (arith, c.loop-i-test.true), omega (arith, c.loop-i.invariant.1, more))
 
-returns_2 : tie.Need-returns-2 invariant-loop decreases-loop
+returns_2 : tie.Need-returns invariant-loop decreases-loop
 returns_2 c =
-    let head = c.before in
-    let start = head.before.args in
-    let none = first_none start.separator start.s.now head.loop.i c.loop-test.false in
-    omega (arith, head.loop.invariant.1, none)
+    let start = c.args in
+    let none = first_none start.separator start.s.now c.loop-i.i c.loop-i-test.false in
+    omega (arith, c.loop-i.invariant.1, none)
 
-pub next-of-spec : {M : Type 1} → statement M
-next-of-spec =
+pub next_of_spec : {M : Type 1} → statement M
+next_of_spec =
     tie.close
     (tie.spec
     invariant-loop

@@ -19,118 +19,106 @@ use borrow.Author.Rules.{rules}
 use Rattle.text.proofs.lines.numbers_at.Statement.{statement}
 use Rattle.text.proofs.lines.numbers_at.Tie as tie
 
-abbrev invariant-loop : tie.invariant-loop
+abbrev invariant-loop : tie.invariant-loop-at
 invariant-loop line end kind at₀ count₀ good₀ a₀ b₀ at count good a b =
     (at ≤ length line) × (count ≤ at)
     × (scan kind count good a b (pieces_behind space (drop at line)) ≡ scan kind 0 true 0 0 (pieces_behind space (drop end line)))
 
-abbrev decreases-loop : tie.decreases-loop
+abbrev decreases-loop : tie.decreases-loop-at
 decreases-loop line end kind at₀ count₀ good₀ a₀ b₀ at count good a b = length line - at
 
--- at a piece: the line, where the space before it stands, and the piece
-abbrev head : tie.After-number-of invariant-loop decreases-loop → tie.At-loop invariant-loop decreases-loop
-head c = c.before.before.before.before
+abbrev whole : tie.After-number_of-number invariant-loop decreases-loop → List ℕ
+whole c = c.args.line.now
 
-abbrev whole : tie.After-number-of invariant-loop decreases-loop → List ℕ
-whole c = (head c).before.before.args.line.now
+abbrev piece : tie.After-number_of-number invariant-loop decreases-loop → List ℕ
+piece c = (split space (drop (c.loop-at.at + 1) (whole c))).first
 
-abbrev piece : tie.After-number-of invariant-loop decreases-loop → List ℕ
-piece c = (split space (drop ((head c).loop.at + 1) (whole c))).first
+turn : (c : tie.After-number_of-number invariant-loop decreases-loop) →
+    (pieces_behind space (drop c.loop-at.at (whole c)) ≡ piece c ∷ pieces_behind space (drop c.next_of-to.result (whole c)))
+    × (c.next_of-to.result ≤ length (whole c))
+turn c = next_piece space (whole c) c.loop-at.at c.next_of-to.result c.loop-at-test.true
+    c.next_of-to.ensures
 
-turn : (c : tie.After-number-of invariant-loop decreases-loop) →
-    (pieces_behind space (drop (head c).loop.at (whole c)) ≡ piece c ∷ pieces_behind space (drop c.before.before.next_of.result (whole c)))
-    × (c.before.before.next_of.result ≤ length (whole c))
-turn c = next_piece space (whole c) (head c).loop.at c.before.before.next_of.result c.before.before.before.loop-test.true
-    c.before.before.next_of.ensures
+said : (c : tie.After-number_of-number invariant-loop decreases-loop) → c.number_of-number.result ≡ number_said (piece c)
+said c = c.number_of-number.ensures ∙ ap number_said (piece_between space (whole c) (c.loop-at.at + 1) c.next_of-to.result
+    c.next_of-to.ensures)
 
-said : (c : tie.After-number-of invariant-loop decreases-loop) → c.number_of.result ≡ number_said (piece c)
-said c = c.number_of.ensures ∙ ap number_said (piece_between space (whole c) ((head c).loop.at + 1) c.before.before.next_of.result
-    c.before.before.next_of.ensures)
-
-large : (c : tie.After-number-of invariant-loop decreases-loop) → c.number_of.result.large ≡ too_large (piece c)
+large : (c : tie.After-number_of-number invariant-loop decreases-loop) → c.number_of-number.result.large ≡ too_large (piece c)
 large c = ap (λ (n : Number). n.large) (said c) ∙ is_large (piece c)
 
-part-number-of-end : tie.Need-slice-bounds-number-of-end invariant-loop decreases-loop
+part-number-of-end : tie.Need-slice_bounds-number_of-end invariant-loop decreases-loop
 part-number-of-end c =
-    let head = c.before.before in
-    let line = head.before.before.args.line.now in
-    (next_piece space line head.loop.at c.next_of.result c.before.loop-test.true c.next_of.ensures).1
+    let line = c.args.line.now in
+    (next_piece space line c.loop-at.at c.next_of-to.result c.loop-at-test.true c.next_of-to.ensures).1
 
-returns : tie.Need-returns invariant-loop decreases-loop
+returns : tie.Need-returns-then-number invariant-loop decreases-loop
 unfolding shown_step
 returns c =
-    let number = c.before.before in
-    let start = (head number).before.before.args in
-    let now = (head number).loop in
+    let start = c.args in
     let kind = start.kind in
     let all =
-    sym now.inv.2 ∙ ap (scan kind now.count now.good now.a now.b) (turn number).0
-    ∙ scan_large kind now.count now.good now.a now.b (piece number) _ (sym (large number) ∙ c.before.if1.true) in
-    c.bad.ensures ∙ ap shown_step (sym all ∙ scan_all kind (pieces_behind space (drop start.end (whole number))))
+    sym c.loop-at.invariant.2 ∙ ap (scan kind c.loop-at.count c.loop-at.well_formed c.loop-at.a c.loop-at.b) (turn c.before.before).0
+    ∙ scan_large kind c.loop-at.count c.loop-at.well_formed c.loop-at.a c.loop-at.b (piece c.before.before) _ (sym (large c.before.before) ∙ c.if-number.true) in
+    c.bad.ensures ∙ ap shown_step (sym all ∙ scan_all kind (pieces_behind space (drop start.end (whole c.before.before))))
 
-loop-again : tie.Need-loop-preserved invariant-loop decreases-loop
+loop-again : tie.Need-loop-at-preserved invariant-loop decreases-loop
 loop-again c =
-    let number = c.before.before.before.before in
-    let now = (head number).loop in
-    let kind = (head number).before.before.args.kind in
-    let small = sym (large number) ∙ c.before.before.before.if1.false in
-    let rest = pieces_behind space (drop number.before.before.next_of.result (whole number)) in
-    let well = well_spelled (piece number) in
-    let is = is_small (piece number) small in
-    let good = ap (λ (n : Number). n.good) (said number) ∙ is.0 in
-    let value = ap (λ (n : Number). n.value) (said number) ∙ is.1 in
-    let more = scan_small kind now.count now.good now.a now.b (piece number) _ small in (
-      (turn number).1,
-      omega (arith, now.inv.1, number.before.before.next_of.ensures),
-      ap (λ (g : Bool). scan kind (now.count + 1) (now.good && g) c.before.before.pick.result c.before.pick2.result rest) good
-          ∙ ap (λ (x : ℕ). scan kind (now.count + 1) (now.good && well) x c.before.pick2.result rest)
-          (c.before.before.pick.ensures ∙ ap (λ (v : ℕ). cond (eqb now.count 0) v now.a) value)
-          ∙ ap (λ (y : ℕ). scan kind (now.count + 1) (now.good && well) (cond (eqb now.count 0) (worth (piece number)) now.a) y rest)
-          (c.before.pick2.ensures ∙ ap (λ (v : ℕ). cond (eqb now.count 1) v now.b) value)
-          ∙ sym more ∙ ap (scan kind now.count now.good now.a now.b) (sym (turn number).0) ∙ now.inv.2,
+    let kind = c.args.kind in
+    let small = sym (large c.before.before.before.before) ∙ c.if-number.false in
+    let rest = pieces_behind space (drop c.next_of-to.result (whole c.before.before.before.before)) in
+    let well = well_spelled (piece c.before.before.before.before) in
+    let is = is_small (piece c.before.before.before.before) small in
+    let good = ap (λ (n : Number). n.good) (said c.before.before.before.before) ∙ is.0 in
+    let value = ap (λ (n : Number). n.value) (said c.before.before.before.before) ∙ is.1 in
+    let more = scan_small kind c.loop-at.count c.loop-at.well_formed c.loop-at.a c.loop-at.b (piece c.before.before.before.before) _ small in (
+      (turn c.before.before.before.before).1,
+      omega (arith, c.loop-at.invariant.1, c.next_of-to.ensures),
+      ap (λ (g : Bool). scan kind (c.loop-at.count + 1) (c.loop-at.well_formed && g) c.pick-a.result c.pick-b.result rest) good
+          ∙ ap (λ (x : ℕ). scan kind (c.loop-at.count + 1) (c.loop-at.well_formed && well) x c.pick-b.result rest)
+          (c.pick-a.ensures ∙ ap (λ (v : ℕ). cond (eqb c.loop-at.count 0) v c.loop-at.a) value)
+          ∙ ap (λ (y : ℕ). scan kind (c.loop-at.count + 1) (c.loop-at.well_formed && well) (cond (eqb c.loop-at.count 0) (worth (piece c.before.before.before.before)) c.loop-at.a) y rest)
+          (c.pick-b.ensures ∙ ap (λ (v : ℕ). cond (eqb c.loop-at.count 1) v c.loop-at.b) value)
+          ∙ sym more ∙ ap (scan kind c.loop-at.count c.loop-at.well_formed c.loop-at.a c.loop-at.b) (sym (turn c.before.before.before.before).0) ∙ c.loop-at.invariant.2,
     )
 
 -- behind the last piece
-at_end : (c : tie.After-loop invariant-loop decreases-loop) → let now = c.before.loop in let start = c.before.before.before.args in
-    cond (eqb now.count (form_of start.kind).numbers && now.good) (answered (record { kind = start.kind; a = now.a; b = now.b }))
+at_end : (c : tie.After-loop-at invariant-loop decreases-loop) → let start = c.args in
+    cond (eqb c.loop-at.count (form_of start.kind).numbers && c.loop-at.well_formed) (answered (record { kind = start.kind; a = c.loop-at.a; b = c.loop-at.b }))
     (refusing (refusal misspelt 0)) ≡ scan start.kind 0 true 0 0 (pieces_behind space (drop start.end start.line.now))
 at_end c =
-    let now = c.before.loop in
-    let start = c.before.before.before.args in
-    let none = drop_of_length-le start.line.now c.loop-test.false in
-    sym (scan_end start.kind now.count now.good now.a now.b)
-    ∙ ap (λ (l : List ℕ). scan start.kind now.count now.good now.a now.b (pieces_behind space l)) (sym none) ∙ now.invariant.2
+    let c.loop-at = c.loop-at in
+    let start = c.args in
+    let none = drop_of_length-le start.line.now c.loop-at-test.false in
+    sym (scan_end start.kind c.loop-at.count c.loop-at.well_formed c.loop-at.a c.loop-at.b)
+    ∙ ap (λ (l : List ℕ). scan start.kind c.loop-at.count c.loop-at.well_formed c.loop-at.a c.loop-at.b (pieces_behind space l)) (sym none) ∙ c.loop-at.invariant.2
 
-returns_2 : tie.Need-returns-2 invariant-loop decreases-loop
+returns_2 : tie.Need-returns-then-count-body_size invariant-loop decreases-loop
 unfolding shown_step
 returns_2 c =
-    let done = c.before.before in
-    let start = done.before.before.before.args in
+    let start = c.args in
     rw (
       ← scan_all start.kind (pieces_behind space (drop start.end
           start.line.now)),
-      ← at_end done,
-      ← c.before.body-size.ensures.0,
-      c.if2.true,
+      ← at_end c.before.before,
+      ← c.body_size.ensures.0,
+      c.if-count-body_size.true,
     )
 
-returns_3 : tie.Need-returns-3 invariant-loop decreases-loop
+returns_3 : tie.Need-returns invariant-loop decreases-loop
 unfolding shown_step
 returns_3 c =
-    let left = c.before in
-    let done = left.before.before in
-    let start = done.before.before.before.args in
-    c.bad2.ensures
+    let start = c.args in
+    c.bad-2.ensures
     ∙ rw (
       ← scan_all start.kind (pieces_behind space (drop start.end
           start.line.now)),
-      ← at_end done,
-      ← left.before.body-size.ensures.0,
-      left.if2.false,
+      ← at_end c.before.before.before,
+      ← c.body_size.ensures.0,
+      c.if-count-body_size.false,
     )
 
-pub numbers-at-spec : {M : Type 1} → statement M
-numbers-at-spec =
+pub numbers_at_spec : {M : Type 1} → statement M
+numbers_at_spec =
     tie.close
     (tie.spec
     invariant-loop

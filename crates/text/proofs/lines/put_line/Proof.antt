@@ -14,30 +14,24 @@ use borrow.Author.Rules.{rules}
 use Rattle.text.proofs.lines.put_line.Statement.{statement}
 use Rattle.text.proofs.lines.put_line.Tie as tie
 
-put-word-requires : tie.Need-put-word-requires
-put-word-requires c κs = let start = c.before.before in omega (arith, start.requires, line_long start.args.e)
+put-word-requires : tie.Need-put_word-word-requires
+put-word-requires c κs = omega (arith, c.requires, line_long c.args.e)
 
-put-numbers-requires : tie.Need-put-numbers-requires
+put-numbers-requires : tie.Need-put_numbers-numbers-requires
 put-numbers-requires c κs =
-    let word = c.before.before.before in
-    let start = word.before.before.before in
-    omega (arith, start.requires, line_long start.args.e, word.put_word.ensures.0, word.put_word.auto.0)
+    omega (arith, c.requires, line_long c.args.e, c.put_word-word.ensures.0, c.put_word-word.auto.out)
 
 returns : tie.Need-returns
 unfolding line_of
 returns c =
-    let byte = c.before.before in
-    let numbers = byte.before.before.before.before in
-    let word = numbers.before.before.before.before in
-    let start = word.before.before.before in
-    let a = start.args in
-    let one = word.put_word.ensures in
-    let two = numbers.put-numbers.ensures in
+    let a = c.args in
+    let one = c.put_word-word.ensures in
+    let two = c.put_numbers-numbers.ensures in
     let three = put_fits (line_feed ∷ [])
-    byte.put_byte.ensures (omega (arith, start.requires, line_long a.e, one.0, word.put_word.auto.0, two.0, numbers.put-numbers.auto.0)) in
+    c.put_byte.ensures (omega (arith, c.requires, line_long a.e, one.0, c.put_word-word.auto.out, two.0, c.put_numbers-numbers.auto.out)) in
     let w = word_of a.e.kind in
     let ns = numbers_text a.e in
-    let at : numbers.put-numbers.result ≡ a.at + length (line_body a.e) = omega (arith, one.0, two.0, length-append w ns) in
+    let at : c.put_numbers-numbers.result ≡ a.at + length (line_body a.e) = omega (arith, one.0, two.0, length-append w ns) in
     let all = line_body a.e in (
       omega (arith, three.behind, at, length-append (line_body a.e) (line_feed ∷ [])),
       three.holds
@@ -46,7 +40,7 @@ returns c =
           ∙ sym (sets_append all (line_feed ∷ []) a.out.now a.at)),
     )
 
-pub put-line-spec : {M : Type 1} → statement M
-put-line-spec =
+pub put_line_spec : {M : Type 1} → statement M
+put_line_spec =
     tie.close
     (tie.spec put-word-requires put-numbers-requires (λ c κs. search rules) (λ c. search rules) returns)

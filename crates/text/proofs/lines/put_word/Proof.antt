@@ -15,75 +15,61 @@ use borrow.Author.Rules.{rules}
 use Rattle.text.proofs.lines.put_word.Statement.{statement}
 use Rattle.text.proofs.lines.put_word.Tie as tie
 
-abbrev invariant-loop : tie.invariant-loop
+abbrev invariant-loop : tie.invariant-loop-i
 invariant-loop out₀ at word i₀ out i = (i ≤ word.length) × (out ≡ sets out₀ at (first_letters word i))
 
-abbrev decreases-loop : tie.decreases-loop
+abbrev decreases-loop : tie.decreases-loop-i
 decreases-loop out₀ at word i₀ out i = word.length - i
 
 -- once the word is known: it has the kind's letters
-abbrev kind-of : tie.After-word-of invariant-loop decreases-loop → Kind
-kind-of c = c.before.before.args.kind
+abbrev kind-of : tie.After-word_of-word invariant-loop decreases-loop → Kind
+kind-of c = c.args.kind
 
-long : (c : tie.After-word-of invariant-loop decreases-loop) → c.word_of.result.length ≡ length (word_of (kind-of c))
+long : (c : tie.After-word_of-word invariant-loop decreases-loop) → c.word_of-word.result.length ≡ length (word_of (kind-of c))
 unfolding shown_word
-long c = ap (λ (w : Word). w.length) c.word_of.ensures
+long c = ap (λ (w : Word). w.length) c.word_of-word.ensures
 
-loop-holds : tie.Need-loop-init invariant-loop decreases-loop
+loop-holds : tie.Need-loop-i-init invariant-loop decreases-loop
 loop-holds c = (omega arith, refl)
 
-add-out : tie.Need-overflow-add-out invariant-loop decreases-loop
+add-out : tie.Need-overflow_add-out invariant-loop decreases-loop
 add-out c =
-    let turn = c.before in
-    let word = turn.before.before.before in
-    let start = word.before.before in
-    record { fits = omega (arith, turn.if1.true, long word, start.requires, start.well-formed.0.0) }
+    record { fits = omega (arith, c.loop-i-test.true, long c.before.before.before.before, c.requires, c.well_formed.0.0) }
 
-slice-write-out : tie.Need-slice-write-out invariant-loop decreases-loop
+slice-write-out : tie.Need-bounds-out-at invariant-loop decreases-loop
 slice-write-out c =
-    let head = c.before.before.before in
-    let word = head.before in
-    let start = word.before.before in
-    let same = length-sets start.args.out.now start.args.at (first_letters word.word_of.result head.loop.i) in
-    omega (arith, c.before.if1.true, long word, start.requires, ap length head.loop.invariant.1, same)
+    let same = length-sets c.args.out.now c.args.at (first_letters c.word_of-word.result c.loop-i.i) in
+    omega (arith, c.loop-i-test.true, long c.before.before.before.before, c.requires, ap length c.loop-i.invariant.1, same)
 
-loop-again : tie.Need-loop-preserved invariant-loop decreases-loop
+loop-again : tie.Need-loop-i-preserved invariant-loop decreases-loop
 loop-again c =
-    let head = c.before.before.before in
-    let word = head.before in
-    let w = word.word_of.result in
-    let i = head.loop.i in
-    let out = word.before.before.args.out.now in
-    let at = word.before.before.args.at in (
-      omega (arith, c.before.if1.true),
-      rw (head.loop.invariant.1, c.letter.ensures, add-one i) (sym (sets_append (first_letters w i) (letter_at w i ∷ []) out at ∙ rw (letters_count w i))),
+    let w = c.word_of-word.result in
+    let i = c.loop-i.i in
+    let out = c.args.out.now in
+    let at = c.args.at in (
+      omega (arith, c.loop-i-test.true),
+      rw (c.loop-i.invariant.1, c.letter.ensures, add-one i) (sym (sets_append (first_letters w i) (letter_at w i ∷ []) out at ∙ rw (letters_count w i))),
     )
 
-add-result : tie.Need-overflow-add-result invariant-loop decreases-loop
+add-result : tie.Need-overflow_add-result invariant-loop decreases-loop
 add-result c =
-    let word = c.before.before.before in
-    let start = word.before.before in
-    record { fits = omega (arith, c.before.before.loop.invariant.0, long word, start.requires, start.well-formed.0.0) }
+    record { fits = omega (arith, c.loop-i.invariant.0, long c.before.before.before, c.requires, c.well_formed.0.0) }
 
-same_length : tie.Need-same-length invariant-loop decreases-loop
+same_length : tie.Need-shape_of-out invariant-loop decreases-loop
 same_length c =
-    let head = c.before.before in
-    let start = head.before.before.before in
-    ap length head.loop.invariant.1 ∙ length-sets start.args.out.now start.args.at (first_letters head.before.word_of.result head.loop.i)
+    ap length c.loop-i.invariant.1 ∙ length-sets c.args.out.now c.args.at (first_letters c.word_of-word.result c.loop-i.i)
 
 returns : tie.Need-returns invariant-loop decreases-loop
 returns c =
-    let head = c.before.before in
-    let word = head.before in
-    let w = word_of (kind-of word) in
-    let i : head.loop.i ≡ length w = omega (arith, head.loop.invariant.0, c.if1.false, long word) in
-    let all : first_letters word.word_of.result head.loop.i ≡ w =
-    ap (λ (x : Word). first_letters x head.loop.i) word.word_of.ensures ∙ rw i (first_letters_lem (kind-of word) (length w) (omega arith)
+    let w = word_of (kind-of c.before.before.before) in
+    let i : c.loop-i.i ≡ length w = omega (arith, c.loop-i.invariant.0, c.loop-i-test.false, long c.before.before.before) in
+    let all : first_letters c.word_of-word.result c.loop-i.i ≡ w =
+    ap (λ (x : Word). first_letters x c.loop-i.i) c.word_of-word.ensures ∙ rw i (first_letters_lem (kind-of c.before.before.before) (length w) (omega arith)
     ∙ take-length w) in
-    (omega (arith, i), head.loop.invariant.1 ∙ ap (sets word.before.before.args.out.now word.before.before.args.at) all)
+    (omega (arith, i), c.loop-i.invariant.1 ∙ ap (sets c.args.out.now c.args.at) all)
 
-pub put-word-spec : {M : Type 1} → statement M
-put-word-spec =
+pub put_word_spec : {M : Type 1} → statement M
+put_word_spec =
     tie.close
     (tie.spec
     invariant-loop

@@ -12,21 +12,18 @@ use borrow.Author.Rules.{rules}
 use Rattle.text.proofs.lines.row_line.Statement.{statement}
 use Rattle.text.proofs.lines.row_line.Tie as tie
 
-part-row-word-end : tie.Need-slice-bounds-row-word-end
+part-row-word-end : tie.Need-slice_bounds-row_word-end
 part-row-word-end c =
-    let start = c.before.before in
-    end_within start.args.text.now start.args.at c.next_of.result c.next_of.ensures start.requires
+    end_within c.args.text.now c.args.at c.next_of-end.result c.next_of-end.ensures c.requires
 
 returns : tie.Need-returns
 unfolding row_spelled
 returns c =
-    let end = c.before.before in
-    let start = end.before.before in
     c.row_word.ensures
     ∙ ap (λ (l : List ℕ). of_row (kind_spelled (split space l).first))
-    (piece_between line_feed start.args.text.now start.args.at end.next_of.result end.next_of.ensures)
+    (piece_between line_feed c.args.text.now c.args.at c.next_of-end.result c.next_of-end.ensures)
 
-pub row-line-spec : {M : Type 1} → statement M
-row-line-spec =
+pub row_line_spec : {M : Type 1} → statement M
+row_line_spec =
     tie.close
     (tie.spec (λ c κs. search rules) (λ c. search rules) (λ c. search rules) part-row-word-end (λ c κs. search rules) returns)

@@ -12,19 +12,17 @@ use borrow.Author.Rules.{rules}
 use Rattle.text.proofs.lines.row_word.Statement.{statement}
 use Rattle.text.proofs.lines.row_word.Tie as tie
 
-part-kind-of-word-end : tie.Need-slice-bounds-kind-of-word-end
-part-kind-of-word-end c = omega (arith, c.next_of.ensures, first_within space c.before.before.args.line.now)
+part-kind-of-word-end : tie.Need-slice_bounds-kind_of_word-end
+part-kind-of-word-end c = omega (arith, c.next_of-end.ensures, first_within space c.args.line.now)
 
 returns : tie.Need-returns
 returns c =
-    let word = c.before in
-    let end = word.before.before in
-    let line = end.before.before.args.line.now in
-    c.of_row.ensures ∙ ap of_row word.kind-of-word.ensures
-    ∙ ap (λ (w : List ℕ). of_row (kind_spelled w)) (piece_between space line 0 end.next_of.result end.next_of.ensures)
+    let line = c.args.line.now in
+    c.of_row.ensures ∙ ap of_row c.kind_of_word.ensures
+    ∙ ap (λ (w : List ℕ). of_row (kind_spelled w)) (piece_between space line 0 c.next_of-end.result c.next_of-end.ensures)
 
-pub row-word-spec : {M : Type 1} → statement M
-row-word-spec =
+pub row_word_spec : {M : Type 1} → statement M
+row_word_spec =
     tie.close
     (tie.spec
     (λ c κs. search rules)
