@@ -22,33 +22,31 @@ unfolding mask of_mask bit choosing image_one image_two
 one_diagonal Truth s = refl
 one_diagonal Knowledge s = refl
 
-returns : tie.Need-returns
+returns : tie.Need-returns-then-equal
 unfolding mask of_mask bit choosing image_one image_two
 returns c =
-    let a = c.before.before.args in
+    let a = c.args in
     let s = of_mask decisions a.s in
-    rw c.before.if1.true
+    rw c.if-equal.true
     (c.digit.ensures ∙ ap (λ (w : ℕ). digit w (a.t % 16)) (one_diagonal a.order s)
     ∙ in_word decisions truths (omega arith) (image_two (at_or_below a.order) true s) a.t)
 
-returns_2 : tie.Need-returns-2
+returns_2 : tie.Need-returns-in-Truth
 unfolding mask of_mask bit choosing image_one image_two
 returns_2 c =
-    let apart = c.before.before.before in
-    let a = apart.before.args in
-    rw (apart.if1.false, c.before.enum_told.given.1)
-    (c.digit2.ensures ∙ in_words decisions truths (omega arith) (image_two (at_or_below Truth) false) a.s a.t)
+    let a = c.args in
+    rw (c.if-equal.false, c.in-Truth.is)
+    (c.digit-in-Truth.ensures ∙ in_words decisions truths (omega arith) (image_two (at_or_below Truth) false) a.s a.t)
 
-returns_3 : tie.Need-returns-3
+returns_3 : tie.Need-returns-in-Knowledge
 unfolding mask of_mask bit choosing image_one image_two
 returns_3 c =
-    let apart = c.before.before.before in
-    let a = apart.before.args in
-    rw (apart.if1.false, c.before.enum-told2.given.1)
-    (c.digit3.ensures ∙ in_words decisions truths (omega arith) (image_two (at_or_below Knowledge) false) a.s a.t)
+    let a = c.args in
+    rw (c.if-equal.false, c.in-Knowledge.is)
+    (c.digit-in-Knowledge.ensures ∙ in_words decisions truths (omega arith) (image_two (at_or_below Knowledge) false) a.s a.t)
 
-pub compare-set-spec : {M : Type 1} → statement M
-compare-set-spec =
+pub compare_set_spec : {M : Type 1} → statement M
+compare_set_spec =
     tie.close
     (tie.spec
     (λ c κs. search rules)

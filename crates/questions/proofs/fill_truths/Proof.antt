@@ -18,59 +18,48 @@ use borrow.Author.Rules.{rules}
 use Rattle.questions.proofs.fill_truths.Statement.{statement}
 use Rattle.questions.proofs.fill_truths.Tie as tie
 
-abbrev invariant-loop : tie.invariant-loop
+abbrev invariant-loop : tie.invariant-loop-i
 invariant-loop questions sets masks₀ end i₀ masks i =
     (i ≤ end) × (length masks ≡ length masks₀)
     × (masks ≡ map (mask truths) (values (asks_set (set_at sets)) (single true) (entries_in questions) i) ++ drop i masks₀)
 
-abbrev decreases-loop : tie.decreases-loop
+abbrev decreases-loop : tie.decreases-loop-i
 decreases-loop questions sets masks₀ end i₀ masks i = end - i
 
-loop-holds : tie.Need-loop-init invariant-loop decreases-loop
+loop-holds : tie.Need-loop-i-init invariant-loop decreases-loop
 unfolding values
 loop-holds c = (omega arith, refl, refl)
 
--- a turn of the loop, from the place where its entry's kind byte is read: the turn's start, where `room` has answered, and where the function begins
-abbrev turn-of : tie.After-kind-in invariant-loop decreases-loop → tie.At-loop invariant-loop decreases-loop
-turn-of c = c.before.before.before
-
-abbrev stop-of : tie.After-kind-in invariant-loop decreases-loop → tie.After-room invariant-loop decreases-loop
-stop-of c = (turn-of c).before
-
-abbrev start_of : tie.After-kind-in invariant-loop decreases-loop → tie.Start invariant-loop decreases-loop
-start_of c = (stop-of c).before.before.before.before
-
 -- the entry stands in the run, and its mask has a place
-inside : (c : tie.After-kind-in invariant-loop decreases-loop) →
-    (per_entry * (turn-of c).loop.i + 2 < length (start_of c).args.questions.now) × ((turn-of c).loop.i < length (turn-of c).loop.masks)
+inside : (c : tie.After-kind_in invariant-loop decreases-loop) →
+    (per_entry * c.loop-i.i + 2 < length c.args.questions.now) × (c.loop-i.i < length c.loop-i.masks)
 inside c =
-    let start = (start_of c).args in
-    let test = rw (stop-of c).room.ensures at c.before.before.loop-test.true in
-    let l = in_room start.questions.now (length start.masks.now) (turn-of c).loop.i test in
-    (l.0, omega (arith, l.1, (turn-of c).loop.invariant.1))
+    let start = c.args in
+    let test = rw c.room-end.ensures at c.loop-i-test.true in
+    let l = in_room start.questions.now (length start.masks.now) c.loop-i.i test in
+    (l.0, omega (arith, l.1, c.loop-i.invariant.1))
 
-shared-slice-read-kind-in : tie.Need-shared-slice-read-kind-in invariant-loop decreases-loop
-shared-slice-read-kind-in c = omega (arith, c.before.before.before.room.ensures, c.before.loop-test.true)
+shared-slice-read-kind-in : tie.Need-bounds-questions-at invariant-loop decreases-loop
+shared-slice-read-kind-in c = omega (arith, c.room-end.ensures, c.loop-i-test.true)
 
-shared-slice-read-a : tie.Need-shared-slice-read-a invariant-loop decreases-loop
+shared-slice-read-a : tie.Need-bounds-questions-at-in-loop-i invariant-loop decreases-loop
 shared-slice-read-a c = omega (arith, (inside c.before.before).0)
 
-shared-slice-read-b : tie.Need-shared-slice-read-b invariant-loop decreases-loop
+shared-slice-read-b : tie.Need-bounds-questions-at-in-loop-i-2 invariant-loop decreases-loop
 shared-slice-read-b c = omega (arith, (inside c.before.before.before).0)
 
-slice-aggregate-done : tie.Need-slice-aggregate-done invariant-loop decreases-loop
+slice-aggregate-done : tie.Need-slice_bounds-done-end-in-loop-i invariant-loop decreases-loop
 slice-aggregate-done c =
-    let kind = c.before.before.before.before in
-    sym (length-take-le (turn-of kind).loop.i (turn-of kind).loop.masks (omega (arith, (inside kind).1)))
+    sym (length-take-le c.loop-i.i c.loop-i.masks (omega (arith, (inside c.before.before.before).1)))
 
 -- the places of a turn behind its reads: where the sets of the rows that it names are known, and those of the questions
-abbrev read_of : tie.After-mask-at4 invariant-loop decreases-loop → tie.After-done invariant-loop decreases-loop
-read_of c = c.before.before.before.before
+abbrev read_of : tie.After-mask_at-y invariant-loop decreases-loop → tie.After-done invariant-loop decreases-loop
+read_of c = c
 
-abbrev kind-of : tie.After-done invariant-loop decreases-loop → tie.After-as-question invariant-loop decreases-loop
+abbrev kind-of : tie.After-done invariant-loop decreases-loop → tie.After-as_question-kind invariant-loop decreases-loop
 kind-of c = c.before.before.before
 
-slice-write-masks : tie.Need-slice-write-masks invariant-loop decreases-loop
+slice-write-masks : tie.Need-bounds-masks-i invariant-loop decreases-loop
 slice-write-masks c = (inside (kind-of (read_of c.before)).before).1
 
 -- a question's set goes by the masks of the rows that it names
@@ -79,37 +68,33 @@ same_sets : (k : QuestionKind) (equal : Bool) (s t m n : ℕ) (x y : Set truths)
     mask truths (truth_set_by k equal (of_mask decisions m) (of_mask decisions n) x y)
 same_sets k equal s t m n x y p q = rw (p, q)
 
-loop-again : tie.Need-loop-preserved invariant-loop decreases-loop
+loop-again : tie.Need-loop-i-preserved invariant-loop decreases-loop
 unfolding mask
 loop-again c =
-    let y = c.before in
-    let x = y.before in
-    let t = x.before in
-    let s = t.before in
-    let known = kind-of (read_of y) in
+    let known = kind-of (read_of c.before) in
     let kind = known.before in
-    let at = turn-of kind in
-    let args = (start_of kind).args in
+    let at = kind in
+    let args = kind.args in
     let f = asks_set (set_at args.sets.now) in
-    let turn = set_turn truths f (single true) args.questions.now at.loop.i args.masks.now at.loop.masks at.loop.inv.2 in (
+    let turn = set_turn truths f (single true) args.questions.now at.loop.i args.masks.now at.loop.masks at.loop.invariant.2 in (
       omega arith,
-      length-set at.loop.masks at.loop.i c.truth-set-by.result ∙ at.loop.inv.1,
-      turn x.mask-at3.result y.mask-at4.result c.truth-set-by.result (inside kind).0 (omega (arith, (inside kind).1, at.loop.inv.1))
-          x.mask-at3.ensures y.mask-at4.ensures
-          (rw (known.as-question.ensures, kind.kind-in.ensures) at c.truth-set-by.ensures
-          ∙ same_sets _ _ _ _ _ _ _ _ s.mask_at.ensures t.mask-at2.ensures),
+      length-set at.loop.masks at.loop.i c.truth_set_by-v.result ∙ at.loop.invariant.1,
+      turn c.mask_at-x.result c.mask_at-y.result c.truth_set_by-v.result (inside kind).0 (omega (arith, (inside kind).1, at.loop.invariant.1))
+          c.mask_at-x.ensures c.mask_at-y.ensures
+          (rw (known.as-question.ensures, kind.kind-in.ensures) at c.truth_set_by-v.ensures
+          ∙ same_sets _ _ _ _ _ _ _ _ c.mask_at-s.ensures c.mask_at-t.ensures),
     )
 
-same_length : tie.Need-same-length invariant-loop decreases-loop
-same_length c = c.before.loop.invariant.1
+same_length : tie.Need-shape_of-masks invariant-loop decreases-loop
+same_length c = c.loop-i.invariant.1
 
 returns : tie.Need-returns invariant-loop decreases-loop
 returns c =
-    let q : c.before.loop.i ≡ c.before.before.room.result = omega arith in
-    rw (q, c.before.before.room.ensures) at c.before.loop.invariant.2
+    let q : c.loop-i.i ≡ c.room-end.result = omega arith in
+    rw (q, c.room-end.ensures) at c.loop-i.invariant.2
 
-pub fill-truths-spec : {M : Type 1} → statement M
-fill-truths-spec =
+pub fill_truths_spec : {M : Type 1} → statement M
+fill_truths_spec =
     tie.close
     (tie.spec
     invariant-loop

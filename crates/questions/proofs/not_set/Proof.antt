@@ -13,8 +13,8 @@ use Rattle.questions.proofs.not_set.Tie as tie
 returns : tie.Need-returns
 unfolding mask of_mask bit choosing image_one
 returns c =
-    let low : c.before.args.x % 4 % 16 ≡ c.before.args.x % 4 = omega arith in
-    rw low at c.digit.ensures ∙ in_word truths truths (omega arith) (image_one not) c.before.args.x
+    let low : c.args.x % 4 % 16 ≡ c.args.x % 4 = omega arith in
+    rw low at c.digit.ensures ∙ in_word truths truths (omega arith) (image_one not) c.args.x
 
-pub not-set-spec : {M : Type 1} → statement M
-not-set-spec = tie.close (tie.spec (λ c κs. search rules) returns)
+pub not_set_spec : {M : Type 1} → statement M
+not_set_spec = tie.close (tie.spec (λ c κs. search rules) returns)

@@ -4,20 +4,20 @@ use borrow.Author.Rules.{rules}
 use Rattle.questions.proofs.truth_set_by.Statement.{statement}
 use Rattle.questions.proofs.truth_set_by.Tie as tie
 
-returns : tie.Need-returns
+returns : tie.Need-returns-in-Compare
 unfolding truth_set_by
-returns c = rw c.before.before.kind.given.1 c.compare-set.ensures
+returns c = rw c.in-Compare.is c.compare_set.ensures
 
-returns_2 : tie.Need-returns-2
+returns_2 : tie.Need-returns-in-Not
 unfolding truth_set_by
-returns_2 c = rw c.before.enum_told.given.1 c.not_set.ensures
+returns_2 c = rw c.in-Not.is c.not_set.ensures
 
-returns_3 : tie.Need-returns-3
+returns_3 : tie.Need-returns-in-Both
 unfolding truth_set_by
-returns_3 c = rw c.before.enum-told2.given.1 c.both-set.ensures
+returns_3 c = rw c.in-Both.is c.both_set.ensures
 
-pub truth-set-by-spec : {M : Type 1} → statement M
-truth-set-by-spec =
+pub truth_set_by_spec : {M : Type 1} → statement M
+truth_set_by_spec =
     tie.close
     (tie.spec
     (λ c. search rules)

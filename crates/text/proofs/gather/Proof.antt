@@ -4,7 +4,7 @@ use mathlib.Core.Bool.{Bool}
 use mathlib.Core.List.{List}
 use Prim.Native.Nat.{ℕ, ◌+◌, ◌-◌, ◌≤◌, ◌<◌}
 use native.Mathlib.Omega.{arith}
-use lib.ListN.{length as type_size, drop}
+use lib.ListN.{length as list_length, drop}
 use Rattle.entries.specs.declared.Entry.{Entry}
 use Rattle.entries.specs.Said.{Said, answered, refusal, why_of}
 use Rattle.entries.specs.Entries.{size_of}
@@ -24,12 +24,12 @@ abbrev invariant-loop : tie.invariant-loop-at
 invariant-loop text bytes₀ length₀ tally₀ force₀ line₀ at₀ bytes length tally force line at = So text bytes length tally force line at
 
 abbrev decreases-loop : tie.decreases-loop-at
-decreases-loop text bytes₀ length₀ tally₀ force₀ line₀ at₀ bytes length tally force line at = type_size text - at
+decreases-loop text bytes₀ length₀ tally₀ force₀ line₀ at₀ bytes length tally force line at = list_length text - at
 
 abbrev text_at : tie.After-line_at-found invariant-loop decreases-loop → List ℕ
 text_at c = c.args.text.now
 
-inside : (c : tie.After-line_at-found invariant-loop decreases-loop) → c.loop-at.at < type_size (text_at c)
+inside : (c : tie.After-line_at-found invariant-loop decreases-loop) → c.loop-at.at < list_length (text_at c)
 inside c = c.loop-at-test.true
 
 abbrev line-here : tie.After-line_at-found invariant-loop decreases-loop → Line
@@ -94,15 +94,15 @@ add-length c =
 
 own-unless-requires : tie.Need-own_unless-requires invariant-loop decreases-loop
 own-unless-requires c κs =
-    let g = good at in
-    (omega (arith, g.within, next_is at), omega (arith, c.loop-at.invariant.few, g.forth, next_is at))
+    let g = good c.before in
+    (omega (arith, g.within, next_is c.before.before.before.before), omega (arith, c.loop-at.invariant.few, g.forth, next_is c.before.before.before.before))
 
 returns : tie.Need-returns-in-Out invariant-loop decreases-loop
 returns c =
     let why = c.in-Out.why in
-    let kept = kept_out (says at) c.loop-at.tally why (sym (judged_as at) ∙ c.in-Out.is) in
-    let said = stopped c.loop-at.invariant (inside at) (entry at) (good at) why kept in
-    rw (said, ← next_is at, ← c.own_unless.ensures) c.refused.ensures
+    let kept = kept_out (says c.before.before.before) c.loop-at.tally why (sym (judged_as c.before.before.before) ∙ c.in-Out.is) in
+    let said = stopped c.loop-at.invariant (inside c.before.before.before.before.before.before) (entry c.before.before.before) (good c.before.before.before) why kept in
+    rw (said, ← next_is c.before.before.before.before.before.before, ← c.own_unless.ensures) c.refused.ensures
 
 returns_2 : tie.Need-returns-in-Bad invariant-loop decreases-loop
 returns_2 c =
@@ -113,20 +113,20 @@ returns_2 c =
 
 loop-less : tie.Need-loop-at-smaller invariant-loop decreases-loop
 loop-less c =
-    let g = good at in
-    omega (arith, g.forth, g.within, next_is at)
+    let g = good c.before.before.before.before.before in
+    omega (arith, g.forth, g.within, next_is c.before.before.before.before.before.before.before.before)
 
 loop-again : tie.Need-loop-at-preserved invariant-loop decreases-loop
 loop-again c =
-    let e = entry at in
+    let e = entry c.before.before.before.before.before in
     let may = in_table c.before.before.before.before in
-    let fit : c.loop-at.length + size_of e ≤ type_size c.loop-at.bytes = omega (arith, room c.before.before.before.before, c.loop-at.invariant.there) in
-    let k : gather_limit - c.loop-at.length ≡ type_size c.loop-at.bytes - c.loop-at.length = omega (arith, c.loop-at.invariant.there) in
+    let fit : c.loop-at.length + size_of e ≤ list_length c.loop-at.bytes = omega (arith, room c.before.before.before.before, c.loop-at.invariant.there) in
+    let k : gather_limit - c.loop-at.length ≡ list_length c.loop-at.bytes - c.loop-at.length = omega (arith, c.loop-at.invariant.there) in
     let more =
-    taken c.loop-at.invariant (inside at) e (good at) e may.0 _
+    taken c.loop-at.invariant (inside c.before.before.before.before.before.before.before.before) e (good c.before.before.before.before.before) e may.0 _
     (put_length c.loop-at.bytes e c.loop-at.length fit (gather_limit - c.loop-at.length) c.put-length.new.out k c.put-length.ensures.1)
     (put_front c.loop-at.bytes e c.loop-at.length fit (gather_limit - c.loop-at.length) c.put-length.new.out k c.put-length.ensures.1) in
-    so_as more _ _ _ _ (ap (λ (n : ℕ). c.loop-at.length + n) c.put-length.ensures.0) may.1 c.behind-force.ensures (next_is at)
+    so_as more _ _ _ _ (ap (λ (n : ℕ). c.loop-at.length + n) c.put-length.ensures.0) may.1 c.behind-force.ensures (next_is c.before.before.before.before.before.before.before.before)
 
 returns_3 : tie.Need-returns invariant-loop decreases-loop
 returns_3 c =

@@ -34,10 +34,11 @@ loop-again c =
     let inv = c.loop-i.invariant in
     let l : i < t.tally.constraints + t.tally.rows + t.tally.questions = omega (arith, c.loop-i-test.true) in
     let e =
-    unmarked_at t i c.if-i-bound.e l (λ w. (w.0.taken, w.3)) (λ w. (w.0.left, w.1.taken, w.5)) (λ w. (w.1.left, w.4)) c.if-i-bound.branch in
+    unmarked_at t i c.if-i-bound.e l (λ w. (w.if-i-bound.true, w.e-is)) (λ w. (w.if-i-bound.false, w.if-i-ruled.true, w.e-is)) (λ w. (w.if-i-ruled.false, w.e-is))
+    c.if-i-bound.branch-raw in
     let s =
-    owner_at t i c.if-i-bound.s l (λ w. (w.0.taken, w.2 ∙ inv.2)) (λ w. (w.0.left, w.1.taken, w.4)) (λ w. (w.1.left, w.3 ∙ inv.2))
-    c.if-i-bound.branch in
+    owner_at t i c.if-i-bound.s l (λ w. (w.if-i-bound.true, w.s-is ∙ inv.2)) (λ w. (w.if-i-bound.false, w.if-i-ruled.true, w.s-is)) (λ w. (w.if-i-ruled.false, w.s-is ∙ inv.2))
+    c.if-i-bound.branch-raw in
     let more = size_more t i c.if-i-bound.s c.loop-i.force c.if-i-bound.e l inv.2 s e in (
       omega (arith, c.loop-i-test.true),
       omega (arith, inv.1, c.lines_size-size.ensures.0, more),

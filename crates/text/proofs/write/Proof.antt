@@ -37,13 +37,15 @@ here c = omega (arith, c.loop-i-test.true)
 entry_is : (c : tie.Joined-i-bound invariant-loop decreases-loop) → c.if-i-bound.e ≡ get_or (unmarked (contents_in (table_at c))) c.loop-i.i blank
 entry_is c =
     unmarked_at (table_at c) c.loop-i.i c.if-i-bound.e (here c)
-    (λ w. (w.0.taken, w.3)) (λ w. (w.0.left, w.1.taken, w.5)) (λ w. (w.1.left, w.4)) c.if-i-bound.branch
+    (λ w. (w.if-i-bound.true, w.e-is)) (λ w. (w.if-i-bound.false, w.if-i-ruled.true, w.e-is)) (λ w. (w.if-i-ruled.false, w.e-is))
+    c.if-i-bound.branch-raw
 
 owner_is : (c : tie.Joined-i-bound invariant-loop decreases-loop) → c.if-i-bound.s ≡ get_or (all_owners (contents_in (table_at c))) c.loop-i.i no_supplier
 owner_is c =
     let force = c.loop-i.invariant.2 in
     owner_at (table_at c) c.loop-i.i c.if-i-bound.s (here c)
-    (λ w. (w.0.taken, w.2 ∙ force)) (λ w. (w.0.left, w.1.taken, w.4)) (λ w. (w.1.left, w.3 ∙ force)) c.if-i-bound.branch
+    (λ w. (w.if-i-bound.true, w.s-is ∙ force)) (λ w. (w.if-i-bound.false, w.if-i-ruled.true, w.s-is)) (λ w. (w.if-i-ruled.false, w.s-is ∙ force))
+    c.if-i-bound.branch-raw
 
 put-lines-requires : tie.Need-put_lines-at-requires invariant-loop decreases-loop
 put-lines-requires c κs =

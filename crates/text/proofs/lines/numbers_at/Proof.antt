@@ -57,8 +57,8 @@ returns c =
     let start = c.args in
     let kind = start.kind in
     let all =
-    sym c.loop-at.invariant.2 ∙ ap (scan kind c.loop-at.count c.loop-at.well_formed c.loop-at.a c.loop-at.b) (turn c.before.before).0
-    ∙ scan_large kind c.loop-at.count c.loop-at.well_formed c.loop-at.a c.loop-at.b (piece c.before.before) _ (sym (large c.before.before) ∙ c.if-number.true) in
+    sym c.loop-at.invariant.2 ∙ ap (scan kind c.loop-at.count c.loop-at.good c.loop-at.a c.loop-at.b) (turn c.before.before).0
+    ∙ scan_large kind c.loop-at.count c.loop-at.good c.loop-at.a c.loop-at.b (piece c.before.before) _ (sym (large c.before.before) ∙ c.if-number.true) in
     c.bad.ensures ∙ ap shown_step (sym all ∙ scan_all kind (pieces_behind space (drop start.end (whole c.before.before))))
 
 loop-again : tie.Need-loop-at-preserved invariant-loop decreases-loop
@@ -70,27 +70,26 @@ loop-again c =
     let is = is_small (piece c.before.before.before.before) small in
     let good = ap (λ (n : Number). n.good) (said c.before.before.before.before) ∙ is.0 in
     let value = ap (λ (n : Number). n.value) (said c.before.before.before.before) ∙ is.1 in
-    let more = scan_small kind c.loop-at.count c.loop-at.well_formed c.loop-at.a c.loop-at.b (piece c.before.before.before.before) _ small in (
+    let more = scan_small kind c.loop-at.count c.loop-at.good c.loop-at.a c.loop-at.b (piece c.before.before.before.before) _ small in (
       (turn c.before.before.before.before).1,
       omega (arith, c.loop-at.invariant.1, c.next_of-to.ensures),
-      ap (λ (g : Bool). scan kind (c.loop-at.count + 1) (c.loop-at.well_formed && g) c.pick-a.result c.pick-b.result rest) good
-          ∙ ap (λ (x : ℕ). scan kind (c.loop-at.count + 1) (c.loop-at.well_formed && well) x c.pick-b.result rest)
+      ap (λ (g : Bool). scan kind (c.loop-at.count + 1) (c.loop-at.good && g) c.pick-a.result c.pick-b.result rest) good
+          ∙ ap (λ (x : ℕ). scan kind (c.loop-at.count + 1) (c.loop-at.good && well) x c.pick-b.result rest)
           (c.pick-a.ensures ∙ ap (λ (v : ℕ). cond (eqb c.loop-at.count 0) v c.loop-at.a) value)
-          ∙ ap (λ (y : ℕ). scan kind (c.loop-at.count + 1) (c.loop-at.well_formed && well) (cond (eqb c.loop-at.count 0) (worth (piece c.before.before.before.before)) c.loop-at.a) y rest)
+          ∙ ap (λ (y : ℕ). scan kind (c.loop-at.count + 1) (c.loop-at.good && well) (cond (eqb c.loop-at.count 0) (worth (piece c.before.before.before.before)) c.loop-at.a) y rest)
           (c.pick-b.ensures ∙ ap (λ (v : ℕ). cond (eqb c.loop-at.count 1) v c.loop-at.b) value)
-          ∙ sym more ∙ ap (scan kind c.loop-at.count c.loop-at.well_formed c.loop-at.a c.loop-at.b) (sym (turn c.before.before.before.before).0) ∙ c.loop-at.invariant.2,
+          ∙ sym more ∙ ap (scan kind c.loop-at.count c.loop-at.good c.loop-at.a c.loop-at.b) (sym (turn c.before.before.before.before).0) ∙ c.loop-at.invariant.2,
     )
 
 -- behind the last piece
 at_end : (c : tie.After-loop-at invariant-loop decreases-loop) → let start = c.args in
-    cond (eqb c.loop-at.count (form_of start.kind).numbers && c.loop-at.well_formed) (answered (record { kind = start.kind; a = c.loop-at.a; b = c.loop-at.b }))
+    cond (eqb c.loop-at.count (form_of start.kind).numbers && c.loop-at.good) (answered (record { kind = start.kind; a = c.loop-at.a; b = c.loop-at.b }))
     (refusing (refusal misspelt 0)) ≡ scan start.kind 0 true 0 0 (pieces_behind space (drop start.end start.line.now))
 at_end c =
-    let c.loop-at = c.loop-at in
     let start = c.args in
     let none = drop_of_length-le start.line.now c.loop-at-test.false in
-    sym (scan_end start.kind c.loop-at.count c.loop-at.well_formed c.loop-at.a c.loop-at.b)
-    ∙ ap (λ (l : List ℕ). scan start.kind c.loop-at.count c.loop-at.well_formed c.loop-at.a c.loop-at.b (pieces_behind space l)) (sym none) ∙ c.loop-at.invariant.2
+    sym (scan_end start.kind c.loop-at.count c.loop-at.good c.loop-at.a c.loop-at.b)
+    ∙ ap (λ (l : List ℕ). scan start.kind c.loop-at.count c.loop-at.good c.loop-at.a c.loop-at.b (pieces_behind space l)) (sym none) ∙ c.loop-at.invariant.2
 
 returns_2 : tie.Need-returns-then-count-body_size invariant-loop decreases-loop
 unfolding shown_step

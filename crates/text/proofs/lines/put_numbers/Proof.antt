@@ -41,7 +41,7 @@ returns_3 : tie.Need-returns
 returns_3 c =
     let a = c.args in
     let is = c.body_size-numbers.ensures.0 in
-    let one = c.put_number.ensures in
+    let one = c.put_number-next.ensures in
     let two = c.put_number.ensures in
     let text = two_numbers a.e (λ q. c.if-numbers-eq0.false (is ∙ q)) (λ q. c.if-numbers-eq1.false (is ∙ q)) in
     let x = each space (decimal a.e.a ∷ []) in
