@@ -52,15 +52,8 @@ slice-aggregate-done : tie.Need-slice_bounds-done-end-in-loop-i invariant-loop d
 slice-aggregate-done c =
     sym (length-take-le c.loop-i.i c.loop-i.masks (omega (arith, (inside c.before.before.before).1)))
 
--- the places of a turn behind its reads: where the sets of the rows that it names are known, and those of the questions
-abbrev read_of : tie.After-mask_at-y invariant-loop decreases-loop → tie.After-done invariant-loop decreases-loop
-read_of c = c
-
-abbrev kind-of : tie.After-done invariant-loop decreases-loop → tie.After-as_question-kind invariant-loop decreases-loop
-kind-of c = c.before.before.before
-
 slice-write-masks : tie.Need-bounds-masks-i invariant-loop decreases-loop
-slice-write-masks c = (inside (kind-of (read_of c.before)).before).1
+slice-write-masks c = (inside c.before.before.before.before.before.before.before.before).1
 
 -- a question's set goes by the masks of the rows that it names
 same_sets : (k : QuestionKind) (equal : Bool) (s t m n : ℕ) (x y : Set truths) → s ≡ m → t ≡ n →
@@ -71,17 +64,14 @@ same_sets k equal s t m n x y p q = rw (p, q)
 loop-again : tie.Need-loop-i-preserved invariant-loop decreases-loop
 unfolding mask
 loop-again c =
-    let known = kind-of (read_of c.before) in
-    let kind = known.before in
-    let at = kind in
-    let args = kind.args in
+    let args = c.args in
     let f = asks_set (set_at args.sets.now) in
-    let turn = set_turn truths f (single true) args.questions.now at.loop.i args.masks.now at.loop.masks at.loop.invariant.2 in (
+    let turn = set_turn truths f (single true) args.questions.now c.loop-i.i args.masks.now c.loop-i.masks c.loop-i.invariant.2 in (
       omega arith,
-      length-set at.loop.masks at.loop.i c.truth_set_by-v.result ∙ at.loop.invariant.1,
-      turn c.mask_at-x.result c.mask_at-y.result c.truth_set_by-v.result (inside kind).0 (omega (arith, (inside kind).1, at.loop.invariant.1))
+      length-set c.loop-i.masks c.loop-i.i c.truth_set_by-v.result ∙ c.loop-i.invariant.1,
+      turn c.mask_at-x.result c.mask_at-y.result c.truth_set_by-v.result (inside c.before.before.before.before.before.before.before.before).0 (omega (arith, (inside c.before.before.before.before.before.before.before.before).1, c.loop-i.invariant.1))
           c.mask_at-x.ensures c.mask_at-y.ensures
-          (rw (known.as-question.ensures, kind.kind-in.ensures) at c.truth_set_by-v.ensures
+          (rw (c.as_question-kind.ensures, c.kind_in.ensures) at c.truth_set_by-v.ensures
           ∙ same_sets _ _ _ _ _ _ _ _ c.mask_at-s.ensures c.mask_at-t.ensures),
     )
 
