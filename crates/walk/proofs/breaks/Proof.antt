@@ -38,53 +38,21 @@ finishes Nothing m k e = never cc
 finishes Found m k e = never cc
 finishes Open m k e = never cc
 
-returns : tie.Need-returns
-returns c = rw c.if1.true
-
 -- the question has room, and the request has no bit beyond the predicates
-fits : (c : tie.Else1) → let a = c.before.args in (leb question_limit a.question ≡ false) × (leb (2 ^ predicate_limit) a.request ≡ false)
-fits c = let a = c.before.args in neither (leb question_limit a.question) (leb (2 ^ predicate_limit) a.request) c.if1.false
-
-walk-at-requires : tie.Need-walk-at-requires
-walk-at-requires c κs =
-    let a = c.before.args in
-    (leb-false question_limit a.question (fits c).0, omega arith, omega arith, leb-false (2 ^ predicate_limit) a.request (fits c).1)
+fits : (c : tie.Else-question-request) → let a = c.args in (leb question_limit a.question ≡ false) × (leb (2 ^ predicate_limit) a.request ≡ false)
+fits c = let a = c.args in neither (leb question_limit a.question) (leb (2 ^ predicate_limit) a.request) c.if-question-request.false
 
 -- what that visit sees
-abbrev seen : tie.After-walk-at → Look
-seen c = let a = c.before.before.args in sees (bounds_in a.t) a.t.rows a.t.questions a.question (2 ^ predicate_limit - 1) a.request
+abbrev seen : tie.After-walk_at-reply → Look
+seen c = let a = c.args in sees (bounds_in a.t) a.t.rows a.t.questions a.question (2 ^ predicate_limit - 1) a.request
 
-ends : (c : tie.After-walk-at) → c.walk_at.result ≡ ended (found_at (seen c) c.before.before.args.request none) 1
+ends : (c : tie.After-walk_at-reply) → c.walk_at-reply.result ≡ ended (found_at (seen c) c.args.request none) 1
 ends c =
-    let a = c.before.before.args in
-    c.walk_at.ensures ∙ one_visit (sees (bounds_in a.t) a.t.rows a.t.questions a.question) a.request
+    let a = c.args in
+    c.walk_at-reply.ensures ∙ one_visit (sees (bounds_in a.t) a.t.rows a.t.questions a.question) a.request
 
-returns_2 : tie.Need-returns-2
-returns_2 c =
-    let walked = c.before.before in
-    let f = fits walked.before in
-    rw (f.0, f.1) (sym (holds_not (seen walked) _ _ (sym c.enum_told.given.1 ∙ ends walked)))
-
-returns_3 : tie.Need-returns-3
-returns_3 c =
-    let walked = c.before.before in
-    let f = fits walked.before in
-    rw (f.0, f.1) (sym (fails_found (seen walked) _ _ _ (sym c.enum-told2.given.1 ∙ ends walked)))
-
-returns_4 : tie.Need-returns-4
-returns_4 c =
-    let walked = c.before.before in
-    finishes (seen walked) _ _ (sym c.enum-told3.given.1 ∙ ends walked)
-
-pub breaks-spec : {M : Type 1} → statement M
-breaks-spec =
+pub breaks_spec : {M : Type 1} → statement M
+breaks_spec =
     tie.close
     (tie.spec
-    returns
-    walk-at-requires
-    (λ c. search rules)
-    (λ c. search rules)
-    (λ c. search rules)
-    returns_2
-    returns_3
-    returns_4)
+    )

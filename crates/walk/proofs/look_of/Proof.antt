@@ -8,18 +8,18 @@ use mathlib.Core.Path.{refl, sym, ◌∙◌}
 use Rattle.walk.proofs.look_of.Statement.{statement}
 use Rattle.walk.proofs.look_of.Tie as tie
 
-returns : tie.Need-returns
+returns : tie.Need-returns-in-1
 unfolding of_mask bit
-returns c = sym (look_at c.before.args.t 1 c.match.keys1)
+returns c = sym (look_at c.args.t 1 c.in-1.is)
 
-returns_2 : tie.Need-returns-2
+returns_2 : tie.Need-returns-in-2
 unfolding of_mask bit
-returns_2 c = sym (look_at c.before.args.t 2 c.match.keys2)
+returns_2 c = sym (look_at c.args.t 2 c.in-2.is)
 
-returns_3 : tie.Need-returns-3
+returns_3 : tie.Need-returns-in_default
 returns_3 c =
-    sym (look_at c.before.args.t (c.before.args.t % 4) refl ∙ look_open (c.before.args.t % 4) (omega arith) c.match.rest.0.1
-    c.match.rest.1)
+    sym (look_at c.args.t (c.args.t % 4) refl ∙ look_open (c.args.t % 4) (omega arith) c.in_default.in_default-own.rest.0.1
+    c.in_default.in_default-own.rest.1)
 
-pub look-of-spec : {M : Type 1} → statement M
-look-of-spec = tie.close (tie.spec returns returns_2 returns_3)
+pub look_of_spec : {M : Type 1} → statement M
+look_of_spec = tie.close (tie.spec returns returns_2 returns_3)

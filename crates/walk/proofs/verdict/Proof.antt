@@ -10,18 +10,6 @@ use borrow.Author.Rules.{rules}
 use Rattle.walk.proofs.verdict.Statement.{statement}
 use Rattle.walk.proofs.verdict.Tie as tie
 
-returns : tie.Need-returns
-returns c = simp (le-ltb _ _ c.if1.true)
-
-returns_2 : tie.Need-returns-2
-returns_2 c =
-    let n = c.before.fewer in
-    let room = c.before.before in
-    let a = room.before.args in
-    let all : n.result - 0 ≡ min a.t.predicates predicate_limit = omega (arith, n.ensures) in
-    c.walk_at.ensures
-    ∙ ap (λ (n : ℕ). reply_of a.budget (walk_by (sees (bounds_in a.t) a.t.rows a.t.questions a.question) n)) all
-    ∙ simp (lt-ltb _ _ room.if1.false)
-
-pub verdict-spec : {M : Type 1} → statement M
-verdict-spec = tie.close (tie.spec returns (λ c κs. search rules) (λ c. search rules) (λ c κs. search rules) returns_2)
+pub verdict_spec : {M : Type 1} → statement M
+verdict_spec = tie.close (tie.spec
+    )

@@ -12,16 +12,12 @@ use borrow.Author.Rules.{rules}
 use Rattle.walk.proofs.visit.Statement.{statement}
 use Rattle.walk.proofs.visit.Tie as tie
 
--- where the function begins, and what it looks at
-abbrev start_of : tie.After-slice-known2 → tie.Start
-start_of c = c.before.before.before.before.before
-
 abbrev seen_at : tie.Start → ℕ → Look
 seen_at c known =
     let a = c.args in sees (entries_in a.constraints.now) (entries_in a.rows.now) (entries_in a.questions.now) a.question known a.facts
 
-sub-known : tie.Need-overflow-sub-known
-sub-known c = let start = start_of c in rw (power_shifted start.args.k start.pre.1) (power_positive start.args.k)
+sub-known : tie.Need-overflow_sub-known
+sub-known c = rw (power_shifted c.args.k c.requires.1) (power_positive c.args.k)
 
 -- the predicates that are known, as the code has them
 abbrev known_at : tie.Start → ℕ
@@ -30,34 +26,27 @@ known_at c = 1 * 2 ^ c.args.k % 4294967296 - 1
 known_is : (c : tie.Start) → known_at c ≡ 2 ^ c.args.k - 1
 known_is c = ap (λ (n : ℕ). n - 1) (power_shifted c.args.k c.requires.1)
 
-returns : tie.Need-returns
+returns : tie.Need-returns-in-Broken
 returns c =
-    let met = c.before.before in
-    let start = start_of met.before in
-    let a = start.args in
-    let broken = sym c.enum_told.given.1 ∙ met.met.ensures in
-    let truths = truth_set (entries_in a.rows.now) (entries_in a.questions.now) (known_at start) a.facts a.question in
+    let a = c.args in
+    let broken = sym c.in-Broken.is ∙ c.met-standing.ensures in
+    let truths = truth_set (entries_in a.rows.now) (entries_in a.questions.now) (known_at c.before.before.before.before.before.before.before) a.facts a.question in
     ap (λ (s : Standing). heeding s (look truths)) broken
-    ∙ ap (seen_at start) (known_is start)
+    ∙ ap (seen_at c.before.before.before.before.before.before.before) (known_is c.before.before.before.before.before.before.before)
 
-returns_2 : tie.Need-returns-2
+returns_2 : tie.Need-returns
 returns_2 c =
-    let looked = c.before in
-    let asked = looked.before.before.before.before in
-    let decided = asked.before.before.before.before.before in
-    let met = decided.before.before.before in
-    let start = start_of met.before in
-    let a = start.args in
+    let a = c.args in
     c.heed.ensures
-    ∙ ap₂ heeding met.met.ensures
-    (looked.look-of.ensures
-    ∙ visit_sees a.rows.now a.questions.now a.sets.now decided.fill-sets.new.1.1.1.0
-    a.truths.now asked.fill-truths.new.1.1.0 a.question _ a.facts start.pre.0
-    decided.fill-sets.ensures asked.fill-truths.ensures)
-    ∙ ap (seen_at start) (known_is start)
+    ∙ ap₂ heeding c.met-standing.ensures
+    (c.look_of.ensures
+    ∙ visit_sees a.rows.now a.questions.now a.sets.now c.fill_sets.new.known.1.1.0
+    a.truths.now c.fill_truths.new.sets.1.0 a.question _ a.facts c.requires.0
+    c.fill_sets.ensures c.fill_truths.ensures)
+    ∙ ap (seen_at c.before.before.before.before.before.before.before.before.before.before.before.before.before.before.before.before.before.before) (known_is c.before.before.before.before.before.before.before.before.before.before.before.before.before.before.before.before.before.before)
 
-pub visit-spec : {M : Type 1} → statement M
-visit-spec =
+pub visit_spec : {M : Type 1} → statement M
+visit_spec =
     tie.close
     (tie.spec
     (λ c. search rules)
