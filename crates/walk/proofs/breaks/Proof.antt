@@ -38,9 +38,17 @@ finishes Nothing m k e = never cc
 finishes Found m k e = never cc
 finishes Open m k e = never cc
 
+returns : tie.Need-returns-then-question-request
+returns c = rw c.if-question-request.true
+
 -- the question has room, and the request has no bit beyond the predicates
 fits : (c : tie.Else-question-request) → let a = c.args in (leb question_limit a.question ≡ false) × (leb (2 ^ predicate_limit) a.request ≡ false)
 fits c = let a = c.args in neither (leb question_limit a.question) (leb (2 ^ predicate_limit) a.request) c.if-question-request.false
+
+walk-at-requires : tie.Need-walk_at-reply-requires
+walk-at-requires c κs =
+    let a = c.args in
+    (leb-false question_limit a.question (fits c).0, omega arith, omega arith, leb-false (2 ^ predicate_limit) a.request (fits c).1)
 
 -- what that visit sees
 abbrev seen : tie.After-walk_at-reply → Look
@@ -51,8 +59,29 @@ ends c =
     let a = c.args in
     c.walk_at-reply.ensures ∙ one_visit (sees (bounds_in a.t) a.t.rows a.t.questions a.question) a.request
 
+returns_2 : tie.Need-returns-in-Holds
+returns_2 c =
+    let f = fits c.before.before in
+    rw (f.0, f.1) (sym (holds_not (seen c.before) _ _ (sym c.in-Holds.is ∙ ends c.before)))
+
+returns_3 : tie.Need-returns-in-Fails
+returns_3 c =
+    let f = fits c.before.before in
+    rw (f.0, f.1) (sym (fails_found (seen c.before) _ _ _ (sym c.in-Fails.is ∙ ends c.before)))
+
+returns_4 : tie.Need-returns-in-Unfinished
+returns_4 c =
+    finishes (seen c.before) _ _ (sym c.in-Unfinished.is ∙ ends c.before)
+
 pub breaks_spec : {M : Type 1} → statement M
 breaks_spec =
     tie.close
     (tie.spec
-    )
+    returns
+    walk-at-requires
+    (λ c. search rules)
+    (λ c. search rules)
+    (λ c. search rules)
+    returns_2
+    returns_3
+    returns_4)

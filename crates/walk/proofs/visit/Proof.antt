@@ -40,8 +40,8 @@ returns_2 c =
     c.heed.ensures
     ∙ ap₂ heeding c.met-standing.ensures
     (c.look_of.ensures
-    ∙ visit_sees a.rows.now a.questions.now a.sets.now c.fill_sets.new.known.1.1.0
-    a.truths.now c.fill_truths.new.sets.1.0 a.question _ a.facts c.requires.0
+    ∙ visit_sees a.rows.now a.questions.now a.sets.now c.fill_sets.new.sets
+    a.truths.now c.fill_truths.new.masks a.question _ a.facts c.requires.0
     c.fill_sets.ensures c.fill_truths.ensures)
     ∙ ap (seen_at c.before.before.before.before.before.before.before.before.before.before.before.before.before.before.before.before.before.before) (known_is c.before.before.before.before.before.before.before.before.before.before.before.before.before.before.before.before.before.before)
 

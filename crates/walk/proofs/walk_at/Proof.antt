@@ -21,135 +21,101 @@ use borrow.Author.Rules.{rules}
 use Rattle.walk.proofs.walk_at.Statement.{statement}
 use Rattle.walk.proofs.walk_at.Tie as tie
 
--- The places in the code that the needs look back to, each from the next: the start; behind the run of the questions; behind the top of the question; behind
--- the run of the rows; behind that of the constraints.
-abbrev start : tie.After-flat → tie.Start
-start c = c.before
-
-abbrev questions : tie.After-top-of → tie.After-flat
-questions c = c.before.before
-
-abbrev tops : tie.After-flat2 → tie.After-top-of
-tops c = c.before
-
-abbrev rows : tie.After-flat3 → tie.After-flat2
-rows c = c.before.before.before
-
-abbrev begun : tie.After-flat2 → tie.Start
-begun c = start (questions (tops c))
-
 -- the question has room
-room : (c : tie.After-flat2) → (begun c).args.question < question_limit
-room c = (begun c).requires.0
+room : (c : tie.After-flat-run) → c.args.question < question_limit
+room c = c.requires.0
 
 -- the runs
-asked_is : (c : tie.After-flat) →
-    Written (start c).args.t.questions ((start c).args.question + 1) (per_entry * row_limit) c.flat.result
+asked_is : (c : tie.After-flat-asked) →
+    Written c.args.t.questions (c.args.question + 1) (per_entry * row_limit) c.flat-asked.result
 asked_is c =
-    let end = (start c).args.question + 1 in
-    let q : min end question_limit ≡ end = omega (arith, (start c).requires.0) in
-    rw q at c.flat.ensures
+    let end = c.args.question + 1 in
+    let q : min end question_limit ≡ end = omega (arith, c.requires.0) in
+    rw q at c.flat-asked.ensures
 
-run_is : (c : tie.After-flat2) → Written (begun c).args.t.rows (tops c).top_of.result (per_entry * row_limit) c.flat2.result
+run_is : (c : tie.After-flat-run) → Written c.args.t.rows c.top_of-top.result (per_entry * row_limit) c.flat-run.result
 run_is c =
-    let seen = (tops c).top_of in
-    let q : min seen.result row_limit ≡ seen.result = omega (arith, seen.ensures.1) in
-    rw q at c.flat2.ensures
+    let q : min c.top_of-top.result row_limit ≡ c.top_of-top.result = omega (arith, c.top_of-top.ensures.1) in
+    rw q at c.flat-run.ensures
 
-bounds_are : (c : tie.After-flat3) → Written (begun (rows c)).args.t.constraints c.before.fewer.result (per_entry * row_limit) c.flat3.result
+bounds_are : (c : tie.After-flat-bounds) → Written c.args.t.constraints c.fewer-bound.result (per_entry * row_limit) c.flat-bounds.result
 bounds_are c =
-    let bound = c.before.fewer in
-    let q : min bound.result constraint_limit ≡ bound.result = omega (arith, bound.ensures) in
-    rw q at c.flat3.ensures
+    let q : min c.fewer-bound.result constraint_limit ≡ c.fewer-bound.result = omega (arith, c.fewer-bound.ensures) in
+    rw q at c.flat-bounds.ensures
 
 -- the constraints that are lent
-bounds_lent : (c : tie.After-flat3) → entries_in (front c.before.fewer.result c.flat3.result) ≡ bounds_in (begun (rows c)).args.t
+bounds_lent : (c : tie.After-flat-bounds) → entries_in (front c.fewer-bound.result c.flat-bounds.result) ≡ bounds_in c.args.t
 bounds_lent c =
-    let bound = c.before.fewer in
-    let t = (begun (rows c)).args.t in
-    run_entries t.constraints bound.result (per_entry * row_limit) c.flat3.result (bounds_are c) (omega (arith, bound.ensures))
-    ∙ ap (up_to t.constraints) bound.ensures
+    let t = c.args.t in
+    run_entries t.constraints c.fewer-bound.result (per_entry * row_limit) c.flat-bounds.result (bounds_are c) (omega (arith, c.fewer-bound.ensures))
+    ∙ ap (up_to t.constraints) c.fewer-bound.ensures
 
 -- the part of the questions that is lent, and its length
-abbrev part : tie.After-flat → List ℕ
-part c = front ((start c).args.question + 1) c.flat.result
+abbrev part : tie.After-flat-asked → List ℕ
+part c = front (c.args.question + 1) c.flat-asked.result
 
-long : (c : tie.After-flat) → length (part c) ≡ per_entry * ((start c).args.question + 1)
+long : (c : tie.After-flat-asked) → length (part c) ≡ per_entry * (c.args.question + 1)
 long c =
-    let a = (start c).args in
-    front_length a.t.questions (a.question + 1) (per_entry * row_limit) c.flat.result (asked_is c) (omega (arith, (start c).requires.0))
+    let a = c.args in
+    front_length a.t.questions (a.question + 1) (per_entry * row_limit) c.flat-asked.result (asked_is c) (omega (arith, c.requires.0))
 
 -- the rows that the question looks at
-top_is : (c : tie.After-top-of) → c.top_of.result ≡ top (entries_in (part (questions c))) (start (questions c)).args.question
+top_is : (c : tie.After-top_of-top) → c.top_of-top.result ≡ top (entries_in (part c.before.before)) c.args.question
 top_is c =
-    let asked = questions c in
-    c.top_of.ensures.0
-    ∙ top_in_lem (part asked) (start asked).args.question (omega (arith, long asked, (start asked).pre.0))
+    c.top_of-top.ensures.0
+    ∙ top_in_lem (part c.before.before) c.args.question (omega (arith, long c.before.before, c.requires.0))
 
-slice-aggregate-questions : tie.Need-slice-aggregate-questions
+slice-aggregate-questions : tie.Need-slice_bounds-questions-end
 slice-aggregate-questions c = sym (long c.before)
 
-slice-aggregate-rows : tie.Need-slice-aggregate-rows
+slice-aggregate-rows : tie.Need-slice_bounds-rows-end
 slice-aggregate-rows c =
-    let here = c.before in
-    let seen = (tops here).top_of in
-    let run = here.flat2.result in
-    sym (front_length (begun here).args.t.rows seen.result (per_entry * row_limit) run (run_is here) (omega (arith, seen.ensures.1)))
+    let run = c.flat-run.result in
+    sym (front_length c.args.t.rows c.top_of-top.result (per_entry * row_limit) run (run_is c.before) (omega (arith, c.top_of-top.ensures.1)))
 
-slice-aggregate-constraints : tie.Need-slice-aggregate-constraints
+slice-aggregate-constraints : tie.Need-slice_bounds-constraints-end
 slice-aggregate-constraints c =
-    let here = c.before in
-    let bound = here.before.fewer in
-    sym (front_length (begun (rows here)).args.t.constraints bound.result (per_entry * row_limit) here.flat3.result (bounds_are here)
-    (omega (arith, bound.ensures)))
+    sym (front_length c.args.t.constraints c.fewer-bound.result (per_entry * row_limit) c.flat-bounds.result (bounds_are c.before)
+    (omega (arith, c.fewer-bound.ensures)))
 
-slice-aggregate-walk-from : tie.Need-slice-aggregate-walk-from
+slice-aggregate-walk-from : tie.Need-slice_bounds-walk_from-end
 slice-aggregate-walk-from c =
-    let seen = (tops (rows c.before.before)).top_of in
-    sym (length-take-le seen.result (replicate row_limit 0) (omega (arith, seen.ensures.1, length-replicate {A = ℕ} row_limit 0)))
+    sym (length-take-le c.top_of-top.result (replicate row_limit 0) (omega (arith, c.top_of-top.ensures.1, length-replicate {A = ℕ} row_limit 0)))
 
-slice-aggregate-walk-from-2 : tie.Need-slice-aggregate-walk-from-2
+slice-aggregate-walk-from-2 : tie.Need-slice_bounds-walk_from-end-2
 slice-aggregate-walk-from-2 c =
-    let here = rows c.before.before.before in
-    sym (length-take-le ((begun here).args.question + 1) (replicate question_limit 0) (omega (arith, room here, length-replicate {A = ℕ} question_limit 0)))
+    sym (length-take-le (c.args.question + 1) (replicate question_limit 0) (omega (arith, room c.before.before.before.before.before.before, length-replicate {A = ℕ} question_limit 0)))
 
 -- what the question looks at is lent
-all : (c : tie.After-flat2) → top (entries_in (part (questions (tops c)))) (begun c).args.question ≤ (tops c).top_of.result
-all c = omega (arith, top_is (tops c))
+all : (c : tie.After-flat-run) → top (entries_in (part c.before.before.before)) c.args.question ≤ c.top_of-top.result
+all c = omega (arith, top_is c.before)
 
-walk_from_requires : tie.Need-walk-from-requires
+walk_from_requires : tie.Need-walk_from-requires
 walk_from_requires c κs =
-    let here = rows c.before.before.before in
-    let start = begun here in
-    let a = start.args in
-    let asked = questions (tops here) in
-    let seen = (tops here).top_of in (
-      lent (bounds_in a.t) a.t.rows a.t.questions here.flat2.result asked.flat.result (per_entry * row_limit) (per_entry * row_limit)
-          seen.result a.question (run_is here) (asked_is asked) (all here) (omega (arith, seen.ensures.1)) (omega (arith, room here))
+    let a = c.args in
+    (
+      lent (bounds_in a.t) a.t.rows a.t.questions c.flat-run.result c.flat-asked.result (per_entry * row_limit) (per_entry * row_limit)
+          c.top_of-top.result a.question (run_is c.before.before.before.before.before.before) (asked_is c.before.before.before.before.before.before.before.before.before) (all c.before.before.before.before.before.before) (omega (arith, c.top_of-top.ensures.1)) (omega (arith, room c.before.before.before.before.before.before))
           (replicate row_limit 0) (replicate question_limit 0)
-          (omega (arith, seen.ensures.1, length-replicate {A = ℕ} row_limit 0)) (omega (arith, room here, length-replicate {A = ℕ} question_limit 0)),
-      start.pre.1,
-      start.pre.2,
-      start.pre.3,
+          (omega (arith, c.top_of-top.ensures.1, length-replicate {A = ℕ} row_limit 0)) (omega (arith, room c.before.before.before.before.before.before, length-replicate {A = ℕ} question_limit 0)),
+      c.requires.1,
+      c.requires.2,
+      c.requires.3,
     )
 
 returns : tie.Need-returns
 returns c =
-    let walked = c.before.before in
-    let bounds = walked.before.before.before.before in
-    let here = rows bounds in
-    let a = (begun here).args in
-    let asked = questions (tops here) in
-    let seen = (tops here).top_of.result in
+    let a = c.args in
+    let seen = c.top_of-top.result in
     let reply : (ℕ → ℕ → Look) → Reply = λ see. reply_of a.budget (walk_from see a.n a.k a.facts) in
-    walked.walk_from.ensures
-    ∙ ap (λ (constraints : List Entry). reply (sees constraints (entries_in (front seen here.flat2.result)) (entries_in (part asked)) a.question))
-    (bounds_lent bounds)
-    ∙ ap reply (run_same (bounds_in a.t) a.t.rows a.t.questions here.flat2.result asked.flat.result (per_entry * row_limit) (per_entry * row_limit)
-    seen a.question (run_is here) (asked_is asked) (all here))
+    c.walk_from.ensures
+    ∙ ap (λ (constraints : List Entry). reply (sees constraints (entries_in (front seen c.flat-run.result)) (entries_in (part c.before.before.before.before.before.before.before.before.before.before.before.before)) a.question))
+    (bounds_lent c.before.before.before.before.before.before)
+    ∙ ap reply (run_same (bounds_in a.t) a.t.rows a.t.questions c.flat-run.result c.flat-asked.result (per_entry * row_limit) (per_entry * row_limit)
+    seen a.question (run_is c.before.before.before.before.before.before.before.before.before) (asked_is c.before.before.before.before.before.before.before.before.before.before.before.before) (all c.before.before.before.before.before.before.before.before.before))
 
-pub walk-at-spec : {M : Type 1} → statement M
-walk-at-spec =
+pub walk_at_spec : {M : Type 1} → statement M
+walk_at_spec =
     tie.close
     (tie.spec
     (λ c. search rules)
