@@ -6,18 +6,18 @@ use borrow.Author.Rules.{rules}
 use Rattle.dimacs.proofs.literal_size.Statement.{statement}
 use Rattle.dimacs.proofs.literal_size.Tie as tie
 
-returns : tie.Need-returns
+returns : tie.Need-returns-then-l
 returns c =
-    let digits = c.before.decimal-size.ensures in
-    let long = literal_signed c.before.before.args.l true c.if1.true in
+    let digits = c.decimal_size-digits.ensures in
+    let long = literal_signed c.args.l true c.if-l.true in
     (omega (arith, digits.0, long), omega (arith, digits.1))
 
-returns_2 : tie.Need-returns-2
+returns_2 : tie.Need-returns-else-l
 returns_2 c =
-    let digits = c.before.decimal-size.ensures in
-    let long = literal_signed c.before.before.args.l false c.if1.false in
+    let digits = c.decimal_size-digits.ensures in
+    let long = literal_signed c.args.l false c.if-l.false in
     (omega (arith, digits.0, long), omega (arith, digits.1))
 
-pub literal-size-spec : {M : Type 1} → statement M
-literal-size-spec =
+pub literal_size_spec : {M : Type 1} → statement M
+literal_size_spec =
     tie.close (tie.spec (λ c κs. search rules) (λ c. search rules) (λ c. search rules) returns returns_2)

@@ -32,69 +32,42 @@ all c =
     text_over (clauses_in a.layout a.constraints.now) (clauses_in a.layout a.rows.now) (clauses_in a.layout a.questions.now)
     (false_clause a.layout a.question)
 
--- the places in the code that the needs look back to: behind each run
-abbrev start : tie.After-put-run → tie.Start
-start c = c.before.before.before.before.before.before
-
-abbrev first : tie.After-put-run2 → tie.After-put-run
-first c = c.before.before.before.before
-
-abbrev second : tie.After-put-run3 → tie.After-put-run2
-second c = c.before.before.before.before
-
-put-run-requires : tie.Need-put-run-requires
+put-run-requires : tie.Need-put_run-first-requires
 put-run-requires c κs =
-    let begun = c.before.before.before.before.before in
-    let pre = begun.requires in
-    (pre.0, room_first _ _ (xs begun) (ys begun ++ (zs begun ++ line begun)) (rw (all begun) at pre.3))
+    let pre = c.requires in
+    (pre.0, room_first _ _ (xs c.before.before.before.before.before) (ys c.before.before.before.before.before ++ (zs c.before.before.before.before.before ++ line c.before.before.before.before.before)) (rw (all c.before.before.before.before.before) at pre.3))
 
-put-run-requires-2 : tie.Need-put-run-requires-2
+put-run-requires-2 : tie.Need-put_run-second-requires
 put-run-requires-2 c κs =
-    let one = c.before.before.before in
-    let begun = start one in
-    let pre = begun.pre in
-    let rest = zs begun ++ line begun in
-    let left = room_then (xs begun) (ys begun ++ rest) one.put-run.ensures (rw (all begun) at pre.3) in
-    (pre.1, room_first _ _ (ys begun) rest left)
+    let pre = c.requires in
+    let rest = zs c.before.before.before.before.before.before.before.before.before ++ line c.before.before.before.before.before.before.before.before.before in
+    let left = room_then (xs c.before.before.before.before.before.before.before.before.before) (ys c.before.before.before.before.before.before.before.before.before ++ rest) c.put_run-first.ensures (rw (all c.before.before.before.before.before.before.before.before.before) at pre.3) in
+    (pre.1, room_first _ _ (ys c.before.before.before.before.before.before.before.before.before) rest left)
 
-put-run-requires-3 : tie.Need-put-run-requires-3
+put-run-requires-3 : tie.Need-put_run-third-requires
 put-run-requires-3 c κs =
-    let two = c.before.before.before in
-    let one = first two in
-    let begun = start one in
-    let pre = begun.pre in
-    let rest = zs begun ++ line begun in
-    let left = room_then (xs begun) (ys begun ++ rest) one.put-run.ensures (rw (all begun) at pre.3) in
-    (pre.2, room_first _ _ (zs begun) (line begun) (room_then (ys begun) rest two.put-run2.ensures left))
+    let pre = c.requires in
+    let rest = zs c.before.before.before.before.before.before.before.before.before.before.before.before.before ++ line c.before.before.before.before.before.before.before.before.before.before.before.before.before in
+    let left = room_then (xs c.before.before.before.before.before.before.before.before.before.before.before.before.before) (ys c.before.before.before.before.before.before.before.before.before.before.before.before.before ++ rest) c.put_run-first.ensures (rw (all c.before.before.before.before.before.before.before.before.before.before.before.before.before) at pre.3) in
+    (pre.2, room_first _ _ (zs c.before.before.before.before.before.before.before.before.before.before.before.before.before) (line c.before.before.before.before.before.before.before.before.before.before.before.before.before) (room_then (ys c.before.before.before.before.before.before.before.before.before.before.before.before.before) rest c.put_run-second.ensures left))
 
-put-clause-requires : tie.Need-put-clause-requires
+put-clause-requires : tie.Need-put_clause-requires
 put-clause-requires c κs =
-    let last = c.before in
-    let three = last.before.before.before in
-    let two = second three in
-    let one = first two in
-    let begun = start one in
-    let rest = zs begun ++ line begun in
-    let left = room_then (xs begun) (ys begun ++ rest) one.put-run.ensures (rw (all begun) at begun.pre.3) in
-    let then = room_then (ys begun) rest two.put-run2.ensures left in
-    let clause = lists_one last.last-clause.result _ last.last-clause.ensures in
-    (clause.some, clause.few, rw clause.lists (room_then (zs begun) (line begun) three.put-run3.ensures then))
+    let rest = zs c.before.before.before.before.before.before.before.before.before.before.before.before.before.before.before.before.before.before ++ line c.before.before.before.before.before.before.before.before.before.before.before.before.before.before.before.before.before.before in
+    let left = room_then (xs c.before.before.before.before.before.before.before.before.before.before.before.before.before.before.before.before.before.before) (ys c.before.before.before.before.before.before.before.before.before.before.before.before.before.before.before.before.before.before ++ rest) c.put_run-first.ensures (rw (all c.before.before.before.before.before.before.before.before.before.before.before.before.before.before.before.before.before.before) at c.requires.3) in
+    let then = room_then (ys c.before.before.before.before.before.before.before.before.before.before.before.before.before.before.before.before.before.before) rest c.put_run-second.ensures left in
+    let clause = lists_one c.last_clause-last.result _ c.last_clause-last.ensures in
+    (clause.some, clause.few, rw clause.lists (room_then (zs c.before.before.before.before.before.before.before.before.before.before.before.before.before.before.before.before.before.before) (line c.before.before.before.before.before.before.before.before.before.before.before.before.before.before.before.before.before.before) c.put_run-third.ensures then))
 
 returns : tie.Need-returns
 returns c =
-    let end = c.before.before in
-    let last = end.before.before in
-    let three = last.before.before.before in
-    let two = second three in
-    let one = first two in
-    let begun = start one in
-    let rest = zs begun ++ line begun in
-    let put = rw (lists_one last.last-clause.result _ last.last-clause.ensures).lists at end.put-clause.ensures in
-    rw (all begun) (put_then (xs begun) (ys begun ++ rest) one.put-run.ensures
-    (put_then (ys begun) rest two.put-run2.ensures (put_then (zs begun) (line begun) three.put-run3.ensures put)))
+    let rest = zs c.before.before.before.before.before.before.before.before.before.before.before.before.before.before.before.before.before.before.before.before.before ++ line c.before.before.before.before.before.before.before.before.before.before.before.before.before.before.before.before.before.before.before.before.before in
+    let put = rw (lists_one c.last_clause-last.result _ c.last_clause-last.ensures).lists at c.put_clause.ensures in
+    rw (all c.before.before.before.before.before.before.before.before.before.before.before.before.before.before.before.before.before.before.before.before.before) (put_then (xs c.before.before.before.before.before.before.before.before.before.before.before.before.before.before.before.before.before.before.before.before.before) (ys c.before.before.before.before.before.before.before.before.before.before.before.before.before.before.before.before.before.before.before.before.before ++ rest) c.put_run-first.ensures
+    (put_then (ys c.before.before.before.before.before.before.before.before.before.before.before.before.before.before.before.before.before.before.before.before.before) rest c.put_run-second.ensures (put_then (zs c.before.before.before.before.before.before.before.before.before.before.before.before.before.before.before.before.before.before.before.before.before) (line c.before.before.before.before.before.before.before.before.before.before.before.before.before.before.before.before.before.before.before.before.before) c.put_run-third.ensures put)))
 
-pub put-clauses-spec : {M : Type 1} → statement M
-put-clauses-spec =
+pub put_clauses_spec : {M : Type 1} → statement M
+put_clauses_spec =
     tie.close
     (tie.spec
     put-run-requires

@@ -11,35 +11,33 @@ use borrow.Author.Rules.{rules}
 use Rattle.dimacs.proofs.put_opening.Statement.{statement}
 use Rattle.dimacs.proofs.put_opening.Tie as tie
 
-abbrev invariant-loop : tie.invariant-loop
+abbrev invariant-loop : tie.invariant-loop-i
 invariant-loop out₀ i₀ out i = (i ≤ 6) × (out ≡ sets out₀ 0 (take i opening))
 
-abbrev decreases-loop : tie.decreases-loop
+abbrev decreases-loop : tie.decreases-loop-i
 decreases-loop out₀ i₀ out i = 6 - i
 
-loop-holds : tie.Need-loop-init invariant-loop decreases-loop
+loop-holds : tie.Need-loop-i-init invariant-loop decreases-loop
 loop-holds c = (omega arith, refl)
 
-slice-write-out : tie.Need-slice-write-out invariant-loop decreases-loop
-slice-write-out c = omega (arith, c.before.before.requires, c.loop-test.true, ap length c.before.loop.invariant.1, length-sets c.before.before.args.out.now 0 (take c.before.loop.i opening))
+slice-write-out : tie.Need-bounds-out-i invariant-loop decreases-loop
+slice-write-out c = omega (arith, c.requires, c.loop-i-test.true, ap length c.loop-i.invariant.1, length-sets c.args.out.now 0 (take c.loop-i.i opening))
 
-loop-again : tie.Need-loop-preserved invariant-loop decreases-loop
+loop-again : tie.Need-loop-i-preserved invariant-loop decreases-loop
 loop-again c =
-    let head = c.before in
-    let next = rw (zero-add head.loop.i) at (sets_next opening head.before.args.out.now 0 head.loop.i c.loop-test.true) in
-    (omega (arith, c.loop-test.true), rw head.loop.invariant.1 next)
+    let next = rw (zero-add c.loop-i.i) at (sets_next opening c.args.out.now 0 c.loop-i.i c.loop-i-test.true) in
+    (omega (arith, c.loop-i-test.true), rw c.loop-i.invariant.1 next)
 
-same_length : tie.Need-same-length invariant-loop decreases-loop
-same_length c = ap length c.before.loop.invariant.1 ∙ length-sets c.before.before.args.out.now 0 (take c.before.loop.i opening)
+same_length : tie.Need-shape_of-out invariant-loop decreases-loop
+same_length c = ap length c.loop-i.invariant.1 ∙ length-sets c.args.out.now 0 (take c.loop-i.i opening)
 
 returns : tie.Need-returns invariant-loop decreases-loop
 returns c =
-    let head = c.before in
-    let all : head.loop.i ≡ 6 = omega (arith, head.loop.invariant.0, c.loop-test.false) in
-    record { behind = omega (arith, all); holds = head.loop.invariant.1 ∙ rw all }
+    let all : c.loop-i.i ≡ 6 = omega (arith, c.loop-i.invariant.0, c.loop-i-test.false) in
+    record { behind = omega (arith, all); holds = c.loop-i.invariant.1 ∙ rw all }
 
-pub put-opening-spec : {M : Type 1} → statement M
-put-opening-spec =
+pub put_opening_spec : {M : Type 1} → statement M
+put_opening_spec =
     tie.close
     (tie.spec
     invariant-loop

@@ -19,55 +19,43 @@ use Rattle.dimacs.proofs.put_rule.Tie as tie
 abbrev lines : Rule → ℕ → List ℕ
 lines rule i = clause_text (get_or (clauses_of rule) i [])
 
-abbrev invariant-loop : tie.invariant-loop
+abbrev invariant-loop : tie.invariant-loop-i
 invariant-loop out₀ at rule count next₀ i₀ out next i = (i ≤ count) × Put out₀ at (joined (lines rule) i) next out
 
-abbrev decreases-loop : tie.decreases-loop
+abbrev decreases-loop : tie.decreases-loop-i
 decreases-loop out₀ at rule count next₀ i₀ out next i = count - i
 
-loop-holds : tie.Need-loop-init invariant-loop decreases-loop
-loop-holds c = (omega arith, rw (joined_none (lines c.before.before.args.rule)) (put_none _ _))
+loop-holds : tie.Need-loop-i-init invariant-loop decreases-loop
+loop-holds c = (omega arith, rw (joined_none (lines c.args.rule)) (put_none _ _))
 
-put-clause-requires : tie.Need-put-clause-requires invariant-loop decreases-loop
+put-clause-requires : tie.Need-put_clause-next-requires invariant-loop decreases-loop
 put-clause-requires c κs =
-    let of = c.before in
-    let in-loop = of.before in
-    let head = in-loop.before in
-    let counted = head.before in
-    let start = counted.before.before in
-    let rule = start.args.rule in
-    let here : head.loop.i < length (clauses_of rule) = omega (arith, in-loop.loop-test.true, counted.clause-count.ensures.0) in
-    let room = room_next (lines rule) head.loop.i (length (clauses_of rule)) here head.loop.invariant.1 (rw (clause_lines (clauses_of rule)) at start.requires) in
-    let clause = lists_clause of.clause-of.result rule head.loop.i here of.clause-of.ensures in
+    let rule = c.args.rule in
+    let here : c.loop-i.i < length (clauses_of rule) = omega (arith, c.loop-i-test.true, c.clause_count-count.ensures.0) in
+    let room = room_next (lines rule) c.loop-i.i (length (clauses_of rule)) here c.loop-i.invariant.1 (rw (clause_lines (clauses_of rule)) at c.requires) in
+    let clause = lists_clause c.clause_of-clause.result rule c.loop-i.i here c.clause_of-clause.ensures in
     (clause.some, clause.few, rw clause.lists room)
 
-loop-again : tie.Need-loop-preserved invariant-loop decreases-loop
+loop-again : tie.Need-loop-i-preserved invariant-loop decreases-loop
 loop-again c =
-    let put = c.before.before in
-    let of = put.before.before in
-    let in-loop = of.before in
-    let head = in-loop.before in
-    let counted = head.before in
-    let rule = counted.before.before.args.rule in
-    let here : head.loop.i < length (clauses_of rule) = omega (arith, in-loop.loop-test.true, counted.clause-count.ensures.0) in
-    let clause = lists_clause of.clause-of.result rule head.loop.i here of.clause-of.ensures in (
-      omega (arith, in-loop.loop-test.true),
-      put_next (lines rule) head.loop.invariant.1 (rw clause.lists at put.put-clause.ensures),
+    let rule = c.args.rule in
+    let here : c.loop-i.i < length (clauses_of rule) = omega (arith, c.loop-i-test.true, c.clause_count-count.ensures.0) in
+    let clause = lists_clause c.clause_of-clause.result rule c.loop-i.i here c.clause_of-clause.ensures in (
+      omega (arith, c.loop-i-test.true),
+      put_next (lines rule) c.loop-i.invariant.1 (rw clause.lists at c.put_clause-next.ensures),
     )
 
-same_length : tie.Need-same-length invariant-loop decreases-loop
-same_length c = put_length c.before.loop.invariant.1
+same_length : tie.Need-shape_of-out invariant-loop decreases-loop
+same_length c = put_length c.loop-i.invariant.1
 
 returns : tie.Need-returns invariant-loop decreases-loop
 returns c =
-    let head = c.before in
-    let counted = head.before in
-    let rule = counted.before.before.args.rule in
-    let all : head.loop.i ≡ length (clauses_of rule) = omega (arith, head.loop.invariant.0, c.loop-test.false, counted.clause-count.ensures.0) in
-    rw (clause_lines (clauses_of rule), ← all) head.loop.invariant.1
+    let rule = c.args.rule in
+    let all : c.loop-i.i ≡ length (clauses_of rule) = omega (arith, c.loop-i.invariant.0, c.loop-i-test.false, c.clause_count-count.ensures.0) in
+    rw (clause_lines (clauses_of rule), ← all) c.loop-i.invariant.1
 
-pub put-rule-spec : {M : Type 1} → statement M
-put-rule-spec =
+pub put_rule_spec : {M : Type 1} → statement M
+put_rule_spec =
     tie.close
     (tie.spec
     invariant-loop

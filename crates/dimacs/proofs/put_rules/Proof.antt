@@ -7,50 +7,38 @@ use borrow.Author.Rules.{rules}
 use Rattle.dimacs.proofs.put_rules.Statement.{statement}
 use Rattle.dimacs.proofs.put_rules.Tie as tie
 
-put-rule-requires : tie.Need-put-rule-requires
+put-rule-requires : tie.Need-put_rule-requires
 put-rule-requires c κs =
-    let told = c.before.before in
-    let start = told.before.before.before in
-    rw told.rules.given.1 at start.requires
+    rw c.in-One.is at c.requires
 
-put-rule-requires-2 : tie.Need-put-rule-requires-2
+put-rule-requires-2 : tie.Need-put_rule-next-requires
 put-rule-requires-2 c κs =
-    let told = c.before.before in
-    let start = told.before.before.before in
-    let first = clauses_of told.rules2.given.0.0 in
-    let second = clauses_of told.rules2.given.0.1.0 in
-    room_first _ _ (text_of first) (text_of second) (rw (told.rules2.given.1, text_append first second) at start.requires)
+    let first = clauses_of c.in-Two.first in
+    let second = clauses_of c.in-Two.second in
+    room_first _ _ (text_of first) (text_of second) (rw (c.in-Two.is, text_append first second) at c.requires)
 
-put-rule-requires-3 : tie.Need-put-rule-requires-3
+put-rule-requires-3 : tie.Need-put_rule-requires-in-Two
 put-rule-requires-3 c κs =
-    let put = c.before.before.before in
-    let told = put.before.before.before in
-    let start = told.before.before.before in
-    let first = clauses_of told.rules2.given.0.0 in
-    let second = clauses_of told.rules2.given.0.1.0 in
-    room_then (text_of first) (text_of second) put.put-rule2.ensures (rw (told.rules2.given.1, text_append first second) at start.requires)
+    let first = clauses_of c.in-Two.first in
+    let second = clauses_of c.in-Two.second in
+    room_then (text_of first) (text_of second) c.put_rule-next.ensures (rw (c.in-Two.is, text_append first second) at c.requires)
 
-returns : tie.Need-returns
+returns : tie.Need-returns-in-None
 unfolding text_of
-returns c = rw c.enum_told.given.1 (put_none _ _)
+returns c = rw c.in-None.is (put_none _ _)
 
-returns_2 : tie.Need-returns-2
+returns_2 : tie.Need-returns-in-One
 returns_2 c =
-    let put = c.before.before in
-    let told = put.before.before.before in
-    rw told.rules.given.1 put.put-rule.ensures
+    rw c.in-One.is c.put_rule.ensures
 
-returns_3 : tie.Need-returns-3
+returns_3 : tie.Need-returns-in-Two
 returns_3 c =
-    let last = c.before.before in
-    let put = last.before.before.before.before in
-    let told = put.before.before.before in
-    let first = clauses_of told.rules2.given.0.0 in
-    let second = clauses_of told.rules2.given.0.1.0 in
-    rw (told.rules2.given.1, text_append first second) (put_then (text_of first) (text_of second) put.put-rule2.ensures last.put-rule3.ensures)
+    let first = clauses_of c.in-Two.first in
+    let second = clauses_of c.in-Two.second in
+    rw (c.in-Two.is, text_append first second) (put_then (text_of first) (text_of second) c.put_rule-next.ensures c.put_rule-in-Two.ensures)
 
-pub put-rules-spec : {M : Type 1} → statement M
-put-rules-spec =
+pub put_rules_spec : {M : Type 1} → statement M
+put_rules_spec =
     tie.close
     (tie.spec
     (λ c. search rules)

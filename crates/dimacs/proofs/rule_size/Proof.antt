@@ -18,54 +18,45 @@ use Rattle.dimacs.proofs.rule_size.Tie as tie
 abbrev lines : Rule → ℕ → List ℕ
 lines rule i = clause_text (get_or (clauses_of rule) i [])
 
-abbrev invariant-loop : tie.invariant-loop
+abbrev invariant-loop : tie.invariant-loop-i
 invariant-loop rule count size₀ i₀ size i = (i ≤ count) × (size ≡ length (joined (lines rule) i)) × (size ≤ 68 * i)
 
-abbrev decreases-loop : tie.decreases-loop
+abbrev decreases-loop : tie.decreases-loop-i
 decreases-loop rule count size₀ i₀ size i = count - i
 
-loop-holds : tie.Need-loop-init invariant-loop decreases-loop
-loop-holds c = (omega arith, sym (ap length (joined_none (lines c.before.args.rule))), omega arith)
+loop-holds : tie.Need-loop-i-init invariant-loop decreases-loop
+loop-holds c = (omega arith, sym (ap length (joined_none (lines c.args.rule))), omega arith)
 
 -- the clause at hand
-clause_at : (c : tie.After-clause-of invariant-loop decreases-loop) → let head = c.before.before in
-    Lists c.clause-of.result (get_or (clauses_of head.before.before.args.rule) head.loop.i [])
+clause_at : (c : tie.After-clause_of invariant-loop decreases-loop) → Lists c.clause_of.result (get_or (clauses_of c.args.rule) c.loop-i.i [])
 clause_at c =
-    let head = c.before.before in
-    let counted = head.before in
-    lists_clause c.clause-of.result counted.before.args.rule head.loop.i
-    (omega (arith, c.before.loop-test.true, counted.clause-count.ensures.0)) c.clause-of.ensures
+    lists_clause c.clause_of.result c.args.rule c.loop-i.i
+    (omega (arith, c.loop-i-test.true, c.clause_count-count.ensures.0)) c.clause_of.ensures
 
-clause-size-requires : tie.Need-clause-size-requires invariant-loop decreases-loop
+clause-size-requires : tie.Need-clause_size-size-requires invariant-loop decreases-loop
 clause-size-requires c κs = let clause = clause_at c in (clause.some, clause.few)
 
-add-size : tie.Need-overflow-add-size invariant-loop decreases-loop
+add-size : tie.Need-overflow_add-size invariant-loop decreases-loop
 add-size c =
-    let head = c.before.before.before in
-    record { fits = omega (arith, head.loop.invariant.2, c.before.before.loop-test.true, head.before.clause-count.ensures.1, c.clause-size.ensures.1) }
+    record { fits = omega (arith, c.loop-i.invariant.2, c.loop-i-test.true, c.clause_count-count.ensures.1, c.clause_size-size.ensures.1) }
 
-loop-again : tie.Need-loop-preserved invariant-loop decreases-loop
+loop-again : tie.Need-loop-i-preserved invariant-loop decreases-loop
 loop-again c =
-    let of = c.before in
-    let in-loop = of.before in
-    let head = in-loop.before in
-    let rule = head.before.before.args.rule in
-    let line = ap (λ (l : List Literal). length (clause_text l)) (clause_at of).lists in (
-      omega (arith, in-loop.loop-test.true),
-      omega (arith, head.loop.invariant.1, c.clause-size.ensures.0, line, longer (lines rule) head.loop.i),
-      omega (arith, head.loop.invariant.2, c.clause-size.ensures.1),
+    let rule = c.args.rule in
+    let line = ap (λ (l : List Literal). length (clause_text l)) (clause_at c.before).lists in (
+      omega (arith, c.loop-i-test.true),
+      omega (arith, c.loop-i.invariant.1, c.clause_size-size.ensures.0, line, longer (lines rule) c.loop-i.i),
+      omega (arith, c.loop-i.invariant.2, c.clause_size-size.ensures.1),
     )
 
 returns : tie.Need-returns invariant-loop decreases-loop
 returns c =
-    let head = c.before in
-    let counted = head.before in
-    let rule = counted.before.args.rule in
-    let all : head.loop.i ≡ length (clauses_of rule) = omega (arith, head.loop.invariant.0, c.loop-test.false, counted.clause-count.ensures.0) in
-    (rw (clause_lines (clauses_of rule), ← all) head.loop.invariant.1, omega (arith, head.loop.invariant.0, head.loop.invariant.2, counted.clause-count.ensures.1))
+    let rule = c.args.rule in
+    let all : c.loop-i.i ≡ length (clauses_of rule) = omega (arith, c.loop-i.invariant.0, c.loop-i-test.false, c.clause_count-count.ensures.0) in
+    (rw (clause_lines (clauses_of rule), ← all) c.loop-i.invariant.1, omega (arith, c.loop-i.invariant.0, c.loop-i.invariant.2, c.clause_count-count.ensures.1))
 
-pub rule-size-spec : {M : Type 1} → statement M
-rule-size-spec =
+pub rule_size_spec : {M : Type 1} → statement M
+rule_size_spec =
     tie.close
     (tie.spec
     invariant-loop

@@ -22,89 +22,71 @@ clauses layout run = clauses_at layout (entries_in run)
 abbrev lines : Layout → List ℕ → ℕ → List ℕ
 lines layout run i = text_of (clauses layout run i)
 
-abbrev invariant-loop : tie.invariant-loop
+abbrev invariant-loop : tie.invariant-loop-i
 invariant-loop run layout count clauses₀ bytes₀ i₀ counted bytes i =
     (i ≤ count) × (counted ≡ length (joined (clauses layout run) i)) × (bytes ≡ length (joined (lines layout run) i)) × (counted ≤ 12 * i) × (bytes ≤ 816 * i)
 
-abbrev decreases-loop : tie.decreases-loop
+abbrev decreases-loop : tie.decreases-loop-i
 decreases-loop run layout count clauses₀ bytes₀ i₀ counted bytes i = count - i
 
--- a turn of the loop, from the place where its entry's kind byte is read; and where the rules are made
-abbrev turn : tie.After-kind-in invariant-loop decreases-loop → tie.At-loop invariant-loop decreases-loop
-turn c = c.before.before.before
-
-abbrev start : tie.At-loop invariant-loop decreases-loop → tie.Start invariant-loop decreases-loop
-start c = c.before.before
-
-abbrev read : tie.After-rules-extent invariant-loop decreases-loop → tie.After-kind-in invariant-loop decreases-loop
-read c = c.before.before.before.before
-
 -- the entry stands in the run
-inside : (c : tie.In-loop invariant-loop decreases-loop) → per_entry * c.before.loop.i + 2 < length (start c.before).args.run.now
-inside c = omega (arith, c.loop-test.true)
+inside : (c : tie.In-loop-i invariant-loop decreases-loop) → per_entry * c.loop-i.i + 2 < length c.args.run.now
+inside c = omega (arith, c.loop-i-test.true)
 
 -- no more than a byte can number
-few : (c : tie.After-kind-in invariant-loop decreases-loop) → (turn c).loop.i < 256
-few c = omega (arith, inside c.before.before, (start (turn c)).pre)
+few : (c : tie.After-kind_in-kind invariant-loop decreases-loop) → c.loop-i.i < 256
+few c = omega (arith, inside c.before.before, c.requires)
 
-loop-holds : tie.Need-loop-init invariant-loop decreases-loop
+loop-holds : tie.Need-loop-i-init invariant-loop decreases-loop
 loop-holds c =
-    let a = c.before.args in
+    let a = c.args in
     (omega arith, sym (ap length (joined_none (clauses a.layout a.run.now))), sym (ap length (joined_none (lines a.layout a.run.now))), omega arith, omega arith)
 
-mul-from : tie.Need-overflow-mul-from invariant-loop decreases-loop
-mul-from c = record { fits = omega (arith, inside c, (start c.before).pre) }
+mul-from : tie.Need-overflow_mul-from invariant-loop decreases-loop
+mul-from c = record { fits = omega (arith, inside c, c.requires) }
 
-shared-slice-read-kind-in : tie.Need-shared-slice-read-kind-in invariant-loop decreases-loop
+shared-slice-read-kind-in : tie.Need-bounds-run-from invariant-loop decreases-loop
 shared-slice-read-kind-in c = omega (arith, inside c.before)
 
-cast-rules-of : tie.Need-overflow-cast-rules-of invariant-loop decreases-loop
-cast-rules-of c = record { fits = omega (arith, inside c.before.before, (start (turn c)).pre) }
+cast-rules-of : tie.Need-overflow_cast-i invariant-loop decreases-loop
+cast-rules-of c = record { fits = omega (arith, inside c.before.before, c.requires) }
 
-add-rules-of : tie.Need-overflow-add-rules-of invariant-loop decreases-loop
-add-rules-of c = record { fits = omega (arith, inside c.before.before, (start (turn c)).pre) }
+add-rules-of : tie.Need-overflow_add-from invariant-loop decreases-loop
+add-rules-of c = record { fits = omega (arith, inside c.before.before, c.requires) }
 
-shared-slice-read-rules-of : tie.Need-shared-slice-read-rules-of invariant-loop decreases-loop
+shared-slice-read-rules-of : tie.Need-bounds-run-from-in-loop-i invariant-loop decreases-loop
 shared-slice-read-rules-of c = omega (arith, inside c.before.before.before)
 
-add-rules-of-2 : tie.Need-overflow-add-rules-of-2 invariant-loop decreases-loop
-add-rules-of-2 c = record { fits = omega (arith, inside c.before.before.before, (start (turn c.before)).pre) }
+add-rules-of-2 : tie.Need-overflow_add-from-in-loop-i invariant-loop decreases-loop
+add-rules-of-2 c = record { fits = omega (arith, inside c.before.before.before, c.requires) }
 
-shared-slice-read-rules-of-2 : tie.Need-shared-slice-read-rules-of-2 invariant-loop decreases-loop
+shared-slice-read-rules-of-2 : tie.Need-bounds-run-from-in-loop-i-2 invariant-loop decreases-loop
 shared-slice-read-rules-of-2 c = omega (arith, inside c.before.before.before.before)
 
 -- what is measured is the entry at hand
-measured : (c : tie.After-rules-extent invariant-loop decreases-loop) → let a = (start (turn (read c))).args in
-    spelled c.before.rules-of.result ≡ clauses a.layout a.run.now (turn (read c)).loop.i
+measured : (c : tie.After-rules_extent-extent invariant-loop decreases-loop) → let a = c.args in
+    spelled c.rules_of-rules.result ≡ clauses a.layout a.run.now c.loop-i.i
 measured c =
-    let kind = read c in
-    let a = (start (turn kind)).args in
-    run_clauses a.layout a.run.now (turn kind).loop.i kind.kind-in.result c.before.rules-of.result (inside kind.before.before)
-    kind.kind-in.ensures c.before.rules-of.ensures
+    let a = c.args in
+    run_clauses a.layout a.run.now c.loop-i.i c.kind_in-kind.result c.rules_of-rules.result (inside c.before.before.before.before.before.before)
+    c.kind_in-kind.ensures c.rules_of-rules.ensures
 
-add-clauses : tie.Need-overflow-add-clauses invariant-loop decreases-loop
+add-clauses : tie.Need-overflow_add-clauses invariant-loop decreases-loop
 add-clauses c =
-    let made = c.before in
-    let kind = read made in
-    record { fits = omega (arith, (turn kind).loop.inv.3, few kind, made.rules-extent.ensures.1) }
+    record { fits = omega (arith, c.loop-i.invariant.3, few c.before.before.before.before.before, c.rules_extent-extent.ensures.1) }
 
-add-bytes : tie.Need-overflow-add-bytes invariant-loop decreases-loop
+add-bytes : tie.Need-overflow_add-bytes invariant-loop decreases-loop
 add-bytes c =
-    let made = c.before.before in
-    let kind = read made in
-    record { fits = omega (arith, (turn kind).loop.inv.4, few kind, made.rules-extent.ensures.2) }
+    record { fits = omega (arith, c.loop-i.invariant.4, few c.before.before.before.before.before.before, c.rules_extent-extent.ensures.2) }
 
-loop-again : tie.Need-loop-preserved invariant-loop decreases-loop
+loop-again : tie.Need-loop-i-preserved invariant-loop decreases-loop
 loop-again c =
-    let made = c.before.before in
-    let kind = read made in
-    let head = turn kind in
-    let a = (start head).args in
-    let i = head.loop.i in
-    let inv = head.loop.inv in
-    let m = made.rules-extent.ensures in
-    let is = measured made in (
-      omega (arith, kind.before.before.loop-test.taken),
+    let a = c.args in
+    let i = c.loop-i.i in
+    let inv = c.loop-i.invariant in
+    let m = c.rules_extent-extent.ensures in
+    let is = measured c.before.before in (
+      omega (arith, c.loop-i-test.true),
       omega (arith, inv.1, m.0.0, ap length is, longer (clauses a.layout a.run.now) i),
       omega (arith, inv.2, m.0.1, ap (λ (cs : List (List Literal)). length (text_of cs)) is, longer (lines a.layout a.run.now) i),
       omega (arith, inv.3, m.1),
@@ -113,13 +95,11 @@ loop-again c =
 
 returns : tie.Need-returns invariant-loop decreases-loop
 returns c =
-    let head = c.before in
-    let begun = start head in
-    let a = begun.args in
+    let a = c.args in
     let es = entries_in a.run.now in
-    let inv = head.loop.invariant in
-    let all : head.loop.i ≡ length es = omega (arith, inv.0, c.loop-test.false, entries_count a.run.now) in
-    let most : head.loop.i ≤ 256 = omega (arith, inv.0, begun.pre) in (
+    let inv = c.loop-i.invariant in
+    let all : c.loop-i.i ≡ length es = omega (arith, inv.0, c.loop-i-test.false, entries_count a.run.now) in
+    let most : c.loop-i.i ≤ 256 = omega (arith, inv.0, c.requires) in (
       (
         inv.1 ∙ ap (λ (i : ℕ). length (joined (clauses a.layout a.run.now) i)) all ∙ sym (ap length (entry_clauses_lem a.layout es)),
         inv.2 ∙ ap (λ (i : ℕ). length (joined (lines a.layout a.run.now) i)) all ∙ sym (ap length (entry_lines a.layout es)),
@@ -128,8 +108,8 @@ returns c =
       omega (arith, inv.4, most),
     )
 
-pub run-extent-spec : {M : Type 1} → statement M
-run-extent-spec =
+pub run_extent_spec : {M : Type 1} → statement M
+run_extent_spec =
     tie.close
     (tie.spec
     invariant-loop

@@ -16,75 +16,64 @@ use borrow.Author.Rules.{rules}
 use Rattle.strike.proofs.keep.Statement.{statement}
 use Rattle.strike.proofs.keep.Tie as tie
 
-abbrev invariant-loop : tie.invariant-loop
+abbrev invariant-loop : tie.invariant-loop-i
 invariant-loop out₀ t count end₀ i₀ out end i = (i ≤ count) × Filled (contents_in t).constraints out₀ (take i (contents_in t).constraints) end out
 
-abbrev decreases-loop : tie.decreases-loop
+abbrev decreases-loop : tie.decreases-loop-i
 decreases-loop out₀ t count end₀ i₀ out end i = count - i
 
-loop-holds : tie.Need-loop-init invariant-loop decreases-loop
-loop-holds c = let start = c.before in (omega arith, filled_none (contents_in start.args.t1).constraints start.args.out.now start.requires.1)
+loop-holds : tie.Need-loop-i-init invariant-loop decreases-loop
+loop-holds c = (omega arith, filled_none (contents_in c.args.t).constraints c.args.out.now c.requires.1)
 
-element-copy-out-e : tie.Need-element-copy-out-e invariant-loop decreases-loop
-element-copy-out-e c = omega (arith, c.loop-test.true, c.before.before.before.requires.0.bound_fit)
+element-copy-out-e : tie.Need-bounds-t-i invariant-loop decreases-loop
+element-copy-out-e c = omega (arith, c.loop-i-test.true, c.requires.0.bound_fit)
 
-sub-put : tie.Need-overflow-sub-put invariant-loop decreases-loop
-sub-put c = let filled = c.before.before.loop.invariant.1 in omega (arith, filled_within filled, filled_length filled)
+sub-put : tie.Need-slice_bounds-put-count invariant-loop decreases-loop
+sub-put c = let filled = c.loop-i.invariant.1 in omega (arith, filled_within filled, filled_length filled)
 
-part-put-start : tie.Need-slice-bounds-put-start invariant-loop decreases-loop
-part-put-start c = let filled = c.before.before.loop.invariant.1 in omega (arith, filled_within filled, filled_length filled)
+part-put-start : tie.Need-slice_bounds-put-start invariant-loop decreases-loop
+part-put-start c = let filled = c.loop-i.invariant.1 in omega (arith, filled_within filled, filled_length filled)
 
--- the constraint to write is one of them, the next
-abbrev at_head : tie.After-put invariant-loop decreases-loop → tie.At-loop invariant-loop decreases-loop
-at_head c = c.before.before.before.before
+abbrev all : tie.After-put-n invariant-loop decreases-loop → List Entry
+all c = (contents_in c.args.t).constraints
 
-abbrev start : tie.At-loop invariant-loop decreases-loop → tie.Start invariant-loop decreases-loop
-start c = c.before.before
+abbrev next : tie.After-put-n invariant-loop decreases-loop → Entry
+next c = get_or c.args.t.constraints c.loop-i.i blank
 
-abbrev all : tie.After-put invariant-loop decreases-loop → List Entry
-all c = (contents_in (start (at_head c)).args.t1).constraints
-
-abbrev next : tie.After-put invariant-loop decreases-loop → Entry
-next c = get_or (start (at_head c)).args.t1.constraints (at_head c).loop.i blank
-
-one_more : (c : tie.After-put invariant-loop decreases-loop) → take ((at_head c).loop.i + 1) (all c) ≡ take (at_head c).loop.i (all c) ++ (next c ∷ [])
+one_more : (c : tie.After-put-n invariant-loop decreases-loop) → take (c.loop-i.i + 1) (all c) ≡ take c.loop-i.i (all c) ++ (next c ∷ [])
 one_more c =
-    let t = (start (at_head c)).args.t1 in
-    let i = (at_head c).loop.i in
-    let l : i < t.tally.constraints = omega (arith, c.before.before.before.loop-test.true) in
+    let t = c.args.t in
+    let i = c.loop-i.i in
+    let l : i < t.tally.constraints = omega (arith, c.loop-i-test.true) in
     ap (λ (n : ℕ). take n (all c)) (add-one i) ∙ take-suc (all c) i blank (omega (arith, constraints_count t))
     ∙ ap (λ (e : Entry). take i (all c) ++ (e ∷ [])) (first_at blank t.constraints t.tally.constraints i l)
 
-parts : (c : tie.After-put invariant-loop decreases-loop) → let i = (at_head c).loop.i in all c ≡ take (i + 1) (all c) ++ drop (i + 1) (all c)
-parts c = sym (take-append-drop ((at_head c).loop.i + 1) (all c))
+parts : (c : tie.After-put-n invariant-loop decreases-loop) → let i = c.loop-i.i in all c ≡ take (i + 1) (all c) ++ drop (i + 1) (all c)
+parts c = sym (take-append-drop (c.loop-i.i + 1) (all c))
 
-add-end : tie.Need-overflow-add-end invariant-loop decreases-loop
+add-end : tie.Need-overflow_add-end invariant-loop decreases-loop
 add-end c =
-    let put = c.before.before in
-    let room = filled_room (at_head put).loop.invariant.1 (next put ∷ []) _ _ (one_more put) (parts put) in
-    record { fits = omega (arith, put.put.ensures.0, room, ap length (written_one (next put))) }
+    let room = filled_room c.loop-i.invariant.1 (next c.before.before ∷ []) _ _ (one_more c.before.before) (parts c.before.before) in
+    record { fits = omega (arith, c.put-n.ensures.0, room, ap length (written_one (next c.before.before))) }
 
-loop-again : tie.Need-loop-preserved invariant-loop decreases-loop
+loop-again : tie.Need-loop-i-preserved invariant-loop decreases-loop
 loop-again c =
-    let put = c.before.before in
-    let now = (at_head put).loop in
-    let p = put.put in
-    let own = written_one (next put) in (
-      omega (arith, put.before.before.before.loop-test.true),
-      filled_more now.inv.1 (next put ∷ []) _ _ (one_more put) (parts put) (length now.out - now.end) p.result p.new.0 refl
-          (p.ensures.0 ∙ ap length (sym own))
-          (p.ensures.1 ∙ ap (λ (b : List ℕ). onto b (mid_of now.end (length now.out - now.end) now.out)) (sym own)),
+    let own = written_one (next c.before.before) in (
+      omega (arith, c.loop-i-test.true),
+      filled_more c.loop-i.invariant.1 (next c.before.before ∷ []) _ _ (one_more c.before.before) (parts c.before.before) (length c.loop-i.out - c.loop-i.end) c.put-n.result c.put-n.new.out refl
+          (c.put-n.ensures.0 ∙ ap length (sym own))
+          (c.put-n.ensures.1 ∙ ap (λ (b : List ℕ). onto b (mid_of c.loop-i.end (length c.loop-i.out - c.loop-i.end) c.loop-i.out)) (sym own)),
     )
 
-same_length : tie.Need-same-length invariant-loop decreases-loop
-same_length c = filled_length c.before.loop.invariant.1
+same_length : tie.Need-shape_of-out invariant-loop decreases-loop
+same_length c = filled_length c.loop-i.invariant.1
 
 returns : tie.Need-returns invariant-loop decreases-loop
 returns c =
-    let t = (start c.before).args.t1 in
+    let t = c.args.t in
     let es = (contents_in t).constraints in
-    let every : c.before.loop.i ≡ length es = omega (arith, constraints_count t) in
-    filled_all c.before.loop.invariant.1 (ap (λ (i : ℕ). take i es) every ∙ take-length es)
+    let every : c.loop-i.i ≡ length es = omega (arith, constraints_count t) in
+    filled_all c.loop-i.invariant.1 (ap (λ (i : ℕ). take i es) every ∙ take-length es)
 
 pub keep_spec : {M : Type 1} → statement M
 keep_spec =

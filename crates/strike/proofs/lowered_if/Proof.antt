@@ -3,11 +3,11 @@ use borrow.Author.Rules.{rules}
 use Rattle.strike.proofs.lowered_if.Statement.{statement}
 use Rattle.strike.proofs.lowered_if.Tie as tie
 
-returns : tie.Need-returns
-returns c = rw c.before.if1.true c.lower_of.ensures
+returns : tie.Need-returns-then-row
+returns c = rw c.if-row.true c.lower_of.ensures
 
-pub lowered-if-spec : {M : Type 1} → statement M
-lowered-if-spec =
+pub lowered_if_spec : {M : Type 1} → statement M
+lowered_if_spec =
     tie.close
     (tie.spec
     (λ c κs. search rules)

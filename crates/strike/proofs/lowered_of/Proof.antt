@@ -5,11 +5,10 @@ use Rattle.strike.proofs.lowered_of.Tie as tie
 
 returns : tie.Need-returns
 returns c =
-    let first = c.before.before in
-    rw (first.lowered-if.ensures, first.before.names-row.ensures, c.lowered-if2.ensures, c.before.names-row2.ensures)
+    rw (c.lowered_if-a.ensures, c.names_row.ensures, c.lowered_if-b.ensures, c.names_row-2.ensures)
 
-pub lowered-of-spec : {M : Type 1} → statement M
-lowered-of-spec =
+pub lowered_of_spec : {M : Type 1} → statement M
+lowered_of_spec =
     tie.close
     (tie.spec
     (λ c κs. search rules)

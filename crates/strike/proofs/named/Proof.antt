@@ -16,50 +16,48 @@ use borrow.Author.Rules.{rules}
 use Rattle.strike.proofs.named.Statement.{statement}
 use Rattle.strike.proofs.named.Tie as tie
 
-abbrev invariant-loop : tie.invariant-loop
+abbrev invariant-loop : tie.invariant-loop-i
 invariant-loop r t used count i₀ i = (i ≤ count) × (some (names r) (take i (others (contents_in t))) ≡ false)
 
-abbrev decreases-loop : tie.decreases-loop
+abbrev decreases-loop : tie.decreases-loop-i
 decreases-loop r t used count i₀ i = count - i
 
-loop-holds : tie.Need-loop-init invariant-loop decreases-loop
+loop-holds : tie.Need-loop-i-init invariant-loop decreases-loop
 loop-holds c = (omega arith, refl)
 
-returns : tie.Need-returns invariant-loop decreases-loop
+returns : tie.Need-returns-then-names_of invariant-loop decreases-loop
 unfolding in_use
 returns c =
-    let start = c.before.before.before.before.before in
-    let i = c.before.before.before.before.loop.i in
-    let rest = others (contents_in start.args.t1) in
-    let l : i < length rest = omega (arith, others_length start.args.t1) in
-    let e = other_at start.args.t1 i c.before.before.if1.e (omega arith) (λ w. (w.0.taken, w.2)) (λ w. (w.0.left, w.2))
-    c.before.before.if1.branch
+    let i = c.loop-i.i in
+    let rest = others (contents_in c.args.t) in
+    let l : i < length rest = omega (arith, others_length c.args.t) in
+    let e = other_at c.args.t i c.if-i-used.e (omega arith) (λ w. (w.if-i-used.true, w.e-is)) (λ w. (w.if-i-used.false, w.e-is))
+    c.if-i-used.branch-raw
     in
-    let n = sym (c.before.names_of.ensures ∙ ap (names start.args.r) e) in
-    sym (some_at (names start.args.r) rest blank i l (n ∙ c.if2.true))
+    let n = sym (c.names_of.ensures ∙ ap (names c.args.r) e) in
+    sym (some_at (names c.args.r) rest blank i l (n ∙ c.if-names_of.true))
 
-loop-again : tie.Need-loop-preserved invariant-loop decreases-loop
+loop-again : tie.Need-loop-i-preserved invariant-loop decreases-loop
 loop-again c =
-    let start = c.before.before.before.before.before in
-    let i = c.before.before.before.before.loop.i in
-    let rest = others (contents_in start.args.t1) in
-    let l : i < length rest = omega (arith, others_length start.args.t1) in
-    let e = other_at start.args.t1 i c.before.before.if1.e (omega arith) (λ w. (w.0.taken, w.2)) (λ w. (w.0.left, w.2))
-    c.before.before.if1.branch
+    let i = c.loop-i.i in
+    let rest = others (contents_in c.args.t) in
+    let l : i < length rest = omega (arith, others_length c.args.t) in
+    let e = other_at c.args.t i c.if-i-used.e (omega arith) (λ w. (w.if-i-used.true, w.e-is)) (λ w. (w.if-i-used.false, w.e-is))
+    c.if-i-used.branch-raw
     in
-    let n = sym (c.before.names_of.ensures ∙ ap (names start.args.r) e) in
-    (omega arith, none_more (names start.args.r) rest blank i l c.before.before.before.before.loop.invariant.1 (n ∙ c.if2.false))
+    let n = sym (c.names_of.ensures ∙ ap (names c.args.r) e) in
+    (omega arith, none_more (names c.args.r) rest blank i l c.loop-i.invariant.1 (n ∙ c.if-names_of.false))
 
-returns_2 : tie.Need-returns-2 invariant-loop decreases-loop
+returns_2 : tie.Need-returns invariant-loop decreases-loop
 unfolding in_use
 returns_2 c =
-    let t = c.before.before.args.t1 in
+    let t = c.args.t in
     let rest = others (contents_in t) in
-    let q : c.before.loop.i ≡ length rest = omega (arith, others_length t) in
-    sym (rw (q, take-length rest) at c.before.loop.invariant.1)
+    let q : c.loop-i.i ≡ length rest = omega (arith, others_length t) in
+    sym (rw (q, take-length rest) at c.loop-i.invariant.1)
 
-pub named-spec : {M : Type 1} → statement M
-named-spec =
+pub named_spec : {M : Type 1} → statement M
+named_spec =
     tie.close
     (tie.spec
     invariant-loop
