@@ -1,73 +1,74 @@
 // The program of document 01: reads a table from standard input and prints the verdict on each of its questions.
 #![tactic(auto)]
 
-use libc::STDOUT_FILENO;
 use pierstride::Verdict;
+use std::io;
+use std::io::Read;
 
 const BUDGET: u32 = 1000000;
 
-fn text(bytes: &[u8]) {
-    io::write_all(STDOUT_FILENO, bytes);
+// How many bytes are read. A table longer than that is refused within them.
+const MOST: u64 = 4096;
+
+fn text(rt: &impl Print, bytes: &[u8]) -> io::Result<()> {
+    rt.write_all(bytes)
 }
 
-fn number(n: u64) {
-    io::print_decimal(STDOUT_FILENO, n);
+fn number(rt: &impl Print, n: u64) -> io::Result<()> {
+    print!(rt; "{n}")
 }
 
 // "refused N at P"
-fn print_refusal(refusal: u32, place: usize) {
-    text(b"refused ");
-    number(refusal as u64);
-    text(b" at ");
-    number(place as u64);
-    text(b"\n");
+fn print_refusal(rt: &impl Print, refusal: u32, place: usize) -> io::Result<()> {
+    text(rt, b"refused ")?;
+    number(rt, refusal as u64)?;
+    text(rt, b" at ")?;
+    number(rt, place as u64)?;
+    text(rt, b"\n")
 }
 
 // "rows R queries Q predicates N"
-fn print_header(rows: u32, questions: u32, predicates: u32) {
-    text(b"rows ");
-    number(rows as u64);
-    text(b" queries ");
-    number(questions as u64);
-    text(b" predicates ");
-    number(predicates as u64);
-    text(b"\n");
+fn print_header(rt: &impl Print, rows: u32, questions: u32, predicates: u32) -> io::Result<()> {
+    text(rt, b"rows ")?;
+    number(rt, rows as u64)?;
+    text(rt, b" queries ")?;
+    number(rt, questions as u64)?;
+    text(rt, b" predicates ")?;
+    number(rt, predicates as u64)?;
+    text(rt, b"\n")
 }
 
 // "N holds after C", "N fails M after C" or "N unfinished after C"
-fn print_verdict(question: u32, v: Verdict) {
-    number(question as u64);
+fn print_verdict(rt: &impl Print, question: u32, v: Verdict) -> io::Result<()> {
+    number(rt, question as u64)?;
     if v.reply == pierstride::HOLDS {
-        text(b" holds");
+        text(rt, b" holds")?;
     } else if v.reply == pierstride::FAILS {
-        text(b" fails ");
-        number(v.request as u64);
+        text(rt, b" fails ")?;
+        number(rt, v.request as u64)?;
     } else {
-        text(b" unfinished");
+        text(rt, b" unfinished")?;
     }
-    text(b" after ");
-    number(v.visits as u64);
-    text(b"\n");
+    text(rt, b" after ")?;
+    number(rt, v.visits as u64)?;
+    text(rt, b"\n")
 }
 
-fn print_verdicts(table: &[u8]) {
+fn print_verdicts(rt: &impl Print, table: &[u8]) -> io::Result<()> {
     let c = pierstride::pier_read(table);
     if c.refusal != 0 {
-        print_refusal(c.refusal, c.place);
-        return;
+        return print_refusal(rt, c.refusal, c.place);
     }
     let questions = c.questions;
-    print_header(c.rows, questions, c.predicates);
-    let mut q = 0;
-    while q < questions {
-        print_verdict(q, pierstride::pier_verdict(table, q, BUDGET));
-        q += 1;
+    print_header(rt, c.rows, questions, c.predicates)?;
+    for q in 0..questions {
+        print_verdict(rt, q, pierstride::pier_verdict(table, q, BUDGET))?;
     }
+    Ok(())
 }
 
-// A table longer than the buffer is refused within it.
-fn main() {
-    let mut buffer = io::buffer();
-    let n = io::read_full(0, &mut buffer);
-    print_verdicts(&buffer[..n]);
+fn main(rt: HostRuntime) -> io::Result<()> {
+    let mut table = Vec::new(rt.alloc());
+    rt.stdin().take(MOST).read_to_end(&mut table)?;
+    print_verdicts(&rt, table.as_slice())
 }
