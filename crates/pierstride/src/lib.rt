@@ -147,8 +147,7 @@ fn no_judgement(why: Refusal) -> Judged
 }
 
 // The table's rows, questions and n.
-#[unsafe(no_mangle)]
-pub extern "C" fn pier_read(table: &[u8]) -> Counts
+pub fn pier_read(table: &[u8]) -> Counts
     ensures { result ≡ read_answer table.now }
 {
     let got = table::read(table);
@@ -193,8 +192,7 @@ fn asked_wrongly(missing: bool, bad: bool) -> u8
 }
 
 // What a row decides at a complete request, given as its yes mask.
-#[unsafe(no_mangle)]
-pub extern "C" fn pier_decide(table: &[u8], row: u32, request: u32) -> Decided
+pub fn pier_decide(table: &[u8], row: u32, request: u32) -> Decided
     ensures { result ≡ decide_answer table.now row request }
 {
     let got = table::read(table);
@@ -239,8 +237,7 @@ fn masks_bad(known: u32, request: u32) -> bool
 }
 
 // Which decisions remain possible for a row, with these predicates known and these of them yes.
-#[unsafe(no_mangle)]
-pub extern "C" fn pier_possible(table: &[u8], row: u32, known: u32, request: u32) -> Remaining
+pub fn pier_possible(table: &[u8], row: u32, known: u32, request: u32) -> Remaining
     ensures { result ≡ possible_answer table.now row known request }
 {
     let got = table::read(table);
@@ -293,8 +290,7 @@ fn replied(reply: Reply) -> Verdict
 }
 
 // The verdict on a question, within a budget of visits.
-#[unsafe(no_mangle)]
-pub extern "C" fn pier_verdict(table: &[u8], question: u32, budget: u32) -> Verdict
+pub fn pier_verdict(table: &[u8], question: u32, budget: u32) -> Verdict
     ensures { result ≡ verdict_answer table.now question budget }
 {
     let got = table::read(table);
@@ -321,8 +317,7 @@ fn mask_from(mask: u32, n: u32) -> bool
 }
 
 // Whether a request, given as its yes mask, keeps the constraints and breaks a question.
-#[unsafe(no_mangle)]
-pub extern "C" fn pier_breaks(table: &[u8], question: u32, request: u32) -> Judged
+pub fn pier_breaks(table: &[u8], question: u32, request: u32) -> Judged
     ensures { result ≡ breaks_answer table.now question request }
 {
     let got = table::read(table);
@@ -347,8 +342,7 @@ pub extern "C" fn pier_breaks(table: &[u8], question: u32, request: u32) -> Judg
 }
 
 // Where a row's own bytes stand in the table.
-#[unsafe(no_mangle)]
-pub extern "C" fn pier_entry(table: &[u8], row: u32) -> Located
+pub fn pier_entry(table: &[u8], row: u32) -> Located
     ensures { result ≡ entry_answer table.now row }
 {
     let found = lookup::find(table, row);
@@ -387,8 +381,7 @@ fn answer_of(output: Output) -> Written
 }
 
 // The table without a row, over the front of the lent output; a refusal changes no lent byte.
-#[unsafe(no_mangle)]
-pub extern "C" fn pier_strike(table: &[u8], row: u32, out: &mut [u8]) -> Written
+pub fn pier_strike(table: &[u8], row: u32, out: &mut [u8]) -> Written
     ensures answer { result ≡ strike_answer table.now row out.old }
     ensures output { out.new ≡ strike_output table.now row out.old }
 {
@@ -396,8 +389,7 @@ pub extern "C" fn pier_strike(table: &[u8], row: u32, out: &mut [u8]) -> Written
 }
 
 // The suppliers of the rows that a row reaches, itself included, each once, rising, over the front of the lent output; a refusal changes no lent byte.
-#[unsafe(no_mangle)]
-pub extern "C" fn pier_suppliers(table: &[u8], row: u32, out: &mut [u8]) -> Written
+pub fn pier_suppliers(table: &[u8], row: u32, out: &mut [u8]) -> Written
     ensures answer { result ≡ suppliers_answer table.now row out.old }
     ensures output { out.new ≡ suppliers_output table.now row out.old }
 {
@@ -405,8 +397,7 @@ pub extern "C" fn pier_suppliers(table: &[u8], row: u32, out: &mut [u8]) -> Writ
 }
 
 // The negation of a question as a DIMACS CNF file, over the front of the lent output; a refusal changes no lent byte.
-#[unsafe(no_mangle)]
-pub extern "C" fn pier_dimacs(table: &[u8], question: u32, out: &mut [u8]) -> Written
+pub fn pier_dimacs(table: &[u8], question: u32, out: &mut [u8]) -> Written
     ensures answer { result ≡ dimacs_answer table.now question out.old }
     ensures output { out.new ≡ dimacs_output table.now question out.old }
 {
@@ -414,8 +405,7 @@ pub extern "C" fn pier_dimacs(table: &[u8], question: u32, out: &mut [u8]) -> Wr
 }
 
 // The text of a table, over the front of the lent output; a refusal changes no lent byte.
-#[unsafe(no_mangle)]
-pub extern "C" fn pier_to_text(table: &[u8], out: &mut [u8]) -> Written
+pub fn pier_to_text(table: &[u8], out: &mut [u8]) -> Written
     ensures answer { result ≡ to_text_answer table.now out.old }
     ensures output { out.new ≡ to_text_output table.now out.old }
 {
@@ -423,8 +413,7 @@ pub extern "C" fn pier_to_text(table: &[u8], out: &mut [u8]) -> Written
 }
 
 // The bytes of the table that a text spells, over the front of the lent output; the place of every refusal but 11 is a line's number.
-#[unsafe(no_mangle)]
-pub extern "C" fn pier_from_text(text: &[u8], out: &mut [u8]) -> Written
+pub fn pier_from_text(text: &[u8], out: &mut [u8]) -> Written
     ensures answer { result ≡ from_text_answer text.now out.old }
     ensures output { out.new ≡ from_text_output text.now out.old }
 {
