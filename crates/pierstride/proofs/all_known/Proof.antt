@@ -10,41 +10,35 @@ use borrow.Author.Rules.{rules}
 use Rattle.pierstride.proofs.all_known.Statement.{statement}
 use Rattle.pierstride.proofs.all_known.Tie as tie
 
-abbrev invariant-loop : tie.invariant-loop
+abbrev invariant-loop : tie.invariant-loop-i
 invariant-loop known request i₀ i = (i ≤ predicate_limit) × (known_below i known request ≡ true)
 
-abbrev decreases-loop : tie.decreases-loop
+abbrev decreases-loop : tie.decreases-loop-i
 decreases-loop known request i₀ i = predicate_limit - i
 
-loop-holds : tie.Need-loop-init invariant-loop decreases-loop
+loop-holds : tie.Need-loop-i-init invariant-loop decreases-loop
 unfolding known_below
 loop-holds c = (omega arith, refl)
 
--- a turn of the loop, from behind its second bit
-abbrev turn : tie.After-bit-of2 invariant-loop decreases-loop → tie.At-loop invariant-loop decreases-loop
-turn c = c.before.before.before
-
-returns : tie.Need-returns invariant-loop decreases-loop
+returns : tie.Need-returns-then-bit_of invariant-loop decreases-loop
 returns c =
-    let at = turn c.before in
-    let a = at.before.args in
-    sym (known_never a.known a.request at.loop.i predicate_limit
-    (rw (c.before.before.bit-of.ensures, c.before.bit-of2.ensures) at c.if1.true) (omega arith))
+    let a = c.args in
+    sym (known_never a.known a.request c.loop-i.i predicate_limit
+    (rw (c.bit_of.ensures, c.bit_of-in-loop-i.ensures) at c.if-bit_of.true) (omega arith))
 
-loop-again : tie.Need-loop-preserved invariant-loop decreases-loop
+loop-again : tie.Need-loop-i-preserved invariant-loop decreases-loop
 loop-again c =
-    let at = turn c.before in
-    let a = at.before.args in (
+    let a = c.args in (
       omega arith,
-      known_more a.known a.request at.loop.i at.loop.inv.1
-          (rw (c.before.before.bit-of.ensures, c.before.bit-of2.ensures) at c.if1.false),
+      known_more a.known a.request c.loop-i.i c.loop-i.invariant.1
+          (rw (c.bit_of.ensures, c.bit_of-in-loop-i.ensures) at c.if-bit_of.false),
     )
 
-returns_2 : tie.Need-returns-2 invariant-loop decreases-loop
-returns_2 c = let q : c.before.loop.i ≡ predicate_limit = omega arith in sym (rw q at c.before.loop.invariant.1)
+returns_2 : tie.Need-returns invariant-loop decreases-loop
+returns_2 c = let q : c.loop-i.i ≡ predicate_limit = omega arith in sym (rw q at c.loop-i.invariant.1)
 
-pub all-known-spec : {M : Type 1} → statement M
-all-known-spec =
+pub all_known_spec : {M : Type 1} → statement M
+all_known_spec =
     tie.close
     (tie.spec
     invariant-loop

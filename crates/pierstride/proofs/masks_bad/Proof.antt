@@ -4,8 +4,8 @@ use Rattle.pierstride.proofs.masks_bad.Statement.{statement}
 use Rattle.pierstride.proofs.masks_bad.Tie as tie
 
 returns : tie.Need-returns
-returns c = rw (c.before.before.mask-beyond.ensures, c.before.mask-beyond2.ensures, c.all_Known.ensures)
+returns c = rw (c.mask_beyond.ensures, c.mask_beyond-2.ensures, c.all_known.ensures)
 
-pub masks-bad-spec : {M : Type 1} → statement M
-masks-bad-spec =
+pub masks_bad_spec : {M : Type 1} → statement M
+masks_bad_spec =
     tie.close (tie.spec (λ c κs. search rules) (λ c κs. search rules) (λ c κs. search rules) returns)

@@ -13,65 +13,48 @@ use borrow.Author.Rules.{rules}
 use Rattle.pierstride.proofs.pier_breaks.Statement.{statement}
 use Rattle.pierstride.proofs.pier_breaks.Tie as tie
 
--- once the table was read: the call's start, what the reading stands for, and that it has no more predicates than a mask has bits for
-abbrev start-at : tie.After-enum-told → tie.Start
-start-at c = c.before.before.before.before
+open_at : (c : tie.In-Read) → Opened c.args.table.now c.read-got.result
+open_at c = opened c.args.table.now c.read-got.result c.read-got.ensures c.in-Read.is
 
-open_at : (c : tie.After-enum-told) → Opened (start-at c).args.table.now c.before.before.read.result
-open_at c = opened (start-at c).args.table.now c.before.before.read.result c.before.before.read.ensures c.enum_told.given.1
+few : (c : tie.In-Read) → c.read-got.result.table.predicates ≤ predicate_limit
+few c = let o = open_at c in rw (predicates_is o) (limits c.args.table.now o.contents o.is).4
 
-few : (c : tie.After-enum-told) → c.before.before.read.result.table.predicates ≤ predicate_limit
-few c = let o = open_at c in rw (predicates_is o) (limits (start-at c).args.table.now o.contents o.is).4
-
-returns : tie.Need-returns
+returns : tie.Need-returns-in_default
 unfolding says_breaks
 returns c =
-    let told = c.before.before in
-    let got = told.before.before in
-    let s = got.before.before.args.table.now in
-    passed_on judged_of _ s got.read.result.why c.no-judgement.result (turned s got.read.result got.read.ensures told.enum-told2.given.1)
-    c.no-judgement.ensures
+    let s = c.args.table.now in
+    passed_on judged_of _ s c.read-got.result.why c.no_judgement.result (turned s c.read-got.result c.read-got.ensures c.in_default.is)
+    c.no_judgement.ensures
 
-cast-n : tie.Need-overflow-cast-n
+cast-n : tie.Need-overflow_cast-n
 cast-n c = record { fits = omega (arith, few c.before) }
 
-mask-from-requires : tie.Need-mask-from-requires
+mask-from-requires : tie.Need-mask_from-requires
 mask-from-requires c κs = few c.before
 
-returns_2 : tie.Need-returns-2
+returns_2 : tie.Need-returns-then-why-ne0
 returns_2 c =
-    let asked = c.before.before.before in
-    let masks = asked.before in
-    let told = masks.before.before in
-    let start = (start-at told).args in
-    let why = asked.asked-wrongly in
-    let bad = masks.mask-from in
-    c.no-judgement2.ensures ∙ ap (λ (why : Refusal). judged_of (refusing why)) c.before.of.ensures
-    ∙ breaks_refuses (open_at told) start.question start.request why.result bad.result bad.ensures why.ensures
-    c.before.before.if1.true
+    let start = c.args in
+    c.no_judgement-then-why-ne0.ensures ∙ ap (λ (why : Refusal). judged_of (refusing why)) c.of.ensures
+    ∙ breaks_refuses (open_at c.before.before.before.before.before.before) start.question start.request c.asked_wrongly-why.result c.mask_from.result c.mask_from.ensures c.asked_wrongly-why.ensures
+    c.if-why-ne0.true
 
 -- what the judge says is what the walk found
-judged : (c : tie.After-breaks) → let start = (start-at c.before.before.before.before.before).args in
-    judged_of (answered c.breaks.result) ≡ breaks_answer start.table.now start.question start.request
+judged : (c : tie.After-breaks-yes) → let start = c.args in
+    judged_of (answered c.breaks-yes.result) ≡ breaks_answer start.table.now start.question start.request
 judged c =
-    let else = c.before in
-    let asked = else.before in
-    let masks = asked.before in
-    let told = masks.before.before in
-    let start = (start-at told).args in
-    let why = asked.asked-wrongly in
-    let bad = masks.mask-from in
-    breaks_answers (open_at told) start.question start.request why.result bad.result bad.ensures why.ensures else.if1.false
-    c.breaks.result c.breaks.ensures
+    let start = c.args in
+    breaks_answers (open_at c.before.before.before.before.before) start.question start.request c.asked_wrongly-why.result c.mask_from.result c.mask_from.ensures c.asked_wrongly-why.ensures c.if-why-ne0.false
+    c.breaks-yes.result c.breaks-yes.ensures
 
-returns_3 : tie.Need-returns-3
-returns_3 c = rw c.if2.true at (judged c.before)
+returns_3 : tie.Need-returns-then-yes
+returns_3 c = rw c.if-yes.true at (judged c.before)
 
-returns_4 : tie.Need-returns-4
-returns_4 c = rw c.if2.false at (judged c.before)
+returns_4 : tie.Need-returns-else-yes
+returns_4 c = rw c.if-yes.false at (judged c.before)
 
-pub pier-breaks-spec : {M : Type 1} → statement M
-pier-breaks-spec =
+pub pier_breaks_spec : {M : Type 1} → statement M
+pier_breaks_spec =
     tie.close
     (tie.spec
     (λ c κs. search rules)

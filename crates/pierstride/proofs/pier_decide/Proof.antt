@@ -9,48 +9,31 @@ use borrow.Author.Rules.{rules}
 use Rattle.pierstride.proofs.pier_decide.Statement.{statement}
 use Rattle.pierstride.proofs.pier_decide.Tie as tie
 
--- once the table was read: the call's start, and what the reading stands for
-abbrev start-at : tie.After-enum-told → tie.Start
-start-at c = c.before.before.before.before
+open_at : (c : tie.In-Read) → Opened c.args.table.now c.read-got.result
+open_at c = opened c.args.table.now c.read-got.result c.read-got.ensures c.in-Read.is
 
-open_at : (c : tie.After-enum-told) → Opened (start-at c).args.table.now c.before.before.read.result
-open_at c = opened (start-at c).args.table.now c.before.before.read.result c.before.before.read.ensures c.enum_told.given.1
-
-returns : tie.Need-returns
+returns : tie.Need-returns-in_default
 unfolding says_decide
 returns c =
-    let told = c.before.before in
-    let got = told.before.before in
-    let s = got.before.before.args.table.now in
-    passed_on decided_of _ s got.read.result.why c.no-decision.result (turned s got.read.result got.read.ensures told.enum-told2.given.1)
-    c.no-decision.ensures
+    let s = c.args.table.now in
+    passed_on decided_of _ s c.read-got.result.why c.no_decision.result (turned s c.read-got.result c.read-got.ensures c.in_default.is)
+    c.no_decision.ensures
 
-returns_2 : tie.Need-returns-2
+returns_2 : tie.Need-returns-then-why-ne0
 returns_2 c =
-    let asked = c.before.before.before in
-    let masks = asked.before in
-    let told = masks.before.before.before in
-    let start = (start-at told).args in
-    let why = asked.asked-wrongly in
-    let bad = masks.mask-beyond in
-    c.no-decision2.ensures ∙ ap (λ (why : Refusal). decided_of (refusing why)) c.before.of.ensures
-    ∙ decide_refuses (open_at told) start.row start.request why.result bad.result bad.ensures why.ensures c.before.before.if1.true
+    let start = c.args in
+    c.no_decision-then-why-ne0.ensures ∙ ap (λ (why : Refusal). decided_of (refusing why)) c.of.ensures
+    ∙ decide_refuses (open_at c.before.before.before.before.before.before.before) start.row start.request c.asked_wrongly-why.result c.mask_beyond.result c.mask_beyond.ensures c.asked_wrongly-why.ensures c.if-why-ne0.true
 
-returns_3 : tie.Need-returns-3
+returns_3 : tie.Need-returns
 returns_3 c =
-    let asked = c.before.before.before in
-    let masks = asked.before in
-    let told = masks.before.before.before in
-    let start = (start-at told).args in
-    let why = asked.asked-wrongly in
-    let bad = masks.mask-beyond in
-    let decision = c.before.decide in
-    rw c.code_of_lem.ensures
-    (decide_answers (open_at told) start.row start.request why.result bad.result bad.ensures why.ensures c.before.before.if1.false
-    decision.result decision.ensures)
+    let start = c.args in
+    rw c.code_of.ensures
+    (decide_answers (open_at c.before.before.before.before.before.before.before) start.row start.request c.asked_wrongly-why.result c.mask_beyond.result c.mask_beyond.ensures c.asked_wrongly-why.ensures c.if-why-ne0.false
+    c.decide-v.result c.decide-v.ensures)
 
-pub pier-decide-spec : {M : Type 1} → statement M
-pier-decide-spec =
+pub pier_decide_spec : {M : Type 1} → statement M
+pier_decide_spec =
     tie.close
     (tie.spec
     (λ c κs. search rules)

@@ -8,8 +8,8 @@ use Rattle.pierstride.proofs.pier_dimacs.Tie as tie
 
 returns : tie.Need-returns
 returns c =
-    let call = c.before.before.before.file.ensures in
-    (c.answer-of.ensures ∙ ap written_by call.0 ∙ written_shown _, call.1)
+    let call = c.file.ensures in
+    (c.answer_of.ensures ∙ ap written_by call.0 ∙ written_shown _, call.1)
 
-pub pier-dimacs-spec : {M : Type 1} → statement M
-pier-dimacs-spec = tie.close (tie.spec (λ c κs. search rules) (λ c κs. search rules) (λ c. search rules) returns)
+pub pier_dimacs_spec : {M : Type 1} → statement M
+pier_dimacs_spec = tie.close (tie.spec (λ c κs. search rules) (λ c κs. search rules) (λ c. search rules) returns)

@@ -5,19 +5,18 @@ use borrow.Author.Rules.{rules}
 use Rattle.pierstride.proofs.pier_entry.Statement.{statement}
 use Rattle.pierstride.proofs.pier_entry.Tie as tie
 
-returns : tie.Need-returns
+returns : tie.Need-returns-in-At
 returns c =
-    let found = c.before.before.before.find.ensures in
-    rw (at_part _ c.before.found.given.0.0 (sym found ∙ c.before.found.given.1))
+    let found = c.find-found.ensures in
+    rw (at_part _ c.in-At.part (sym found ∙ c.in-At.is))
 
-returns_2 : tie.Need-returns-2
+returns_2 : tie.Need-returns-in-Missing
 returns_2 c =
-    let told = c.before in
-    let found = told.before.before.before.find.ensures in
-    rw (missing_part _ told.before.found2.given.0.0 (sym found ∙ told.before.found2.given.1))
+    let found = c.find-found.ensures in
+    rw (missing_part _ c.in-Missing.why (sym found ∙ c.in-Missing.is))
 
-pub pier-entry-spec : {M : Type 1} → statement M
-pier-entry-spec =
+pub pier_entry_spec : {M : Type 1} → statement M
+pier_entry_spec =
     tie.close
     (tie.spec
     (λ c κs. search rules)

@@ -8,9 +8,9 @@ use Rattle.pierstride.proofs.pier_from_text.Tie as tie
 
 returns : tie.Need-returns
 returns c =
-    let call = c.before.before.before.from-text.ensures in
-    (c.answer-of.ensures ∙ ap written_by call.0 ∙ written_shown _, call.1)
+    let call = c.from_text.ensures in
+    (c.answer_of.ensures ∙ ap written_by call.0 ∙ written_shown _, call.1)
 
-pub pier-from-text-spec : {M : Type 1} → statement M
-pier-from-text-spec =
+pub pier_from_text_spec : {M : Type 1} → statement M
+pier_from_text_spec =
     tie.close (tie.spec (λ c κs. search rules) (λ c κs. search rules) (λ c. search rules) returns)

@@ -8,8 +8,8 @@ use Rattle.pierstride.proofs.pier_strike.Tie as tie
 
 returns : tie.Need-returns
 returns c =
-    let call = c.before.before.before.strike.ensures in
-    (c.answer-of.ensures ∙ ap written_by call.0 ∙ written_shown _, call.1)
+    let call = c.strike.ensures in
+    (c.answer_of.ensures ∙ ap written_by call.0 ∙ written_shown _, call.1)
 
-pub pier-strike-spec : {M : Type 1} → statement M
-pier-strike-spec = tie.close (tie.spec (λ c κs. search rules) (λ c κs. search rules) (λ c. search rules) returns)
+pub pier_strike_spec : {M : Type 1} → statement M
+pier_strike_spec = tie.close (tie.spec (λ c κs. search rules) (λ c κs. search rules) (λ c. search rules) returns)

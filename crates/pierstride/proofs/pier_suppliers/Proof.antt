@@ -8,8 +8,8 @@ use Rattle.pierstride.proofs.pier_suppliers.Tie as tie
 
 returns : tie.Need-returns
 returns c =
-    let call = c.before.before.before.suppliers.ensures in
-    (c.answer-of.ensures ∙ ap written_by call.0 ∙ written_shown _, call.1)
+    let call = c.suppliers.ensures in
+    (c.answer_of.ensures ∙ ap written_by call.0 ∙ written_shown _, call.1)
 
-pub pier-suppliers-spec : {M : Type 1} → statement M
-pier-suppliers-spec = tie.close (tie.spec (λ c κs. search rules) (λ c κs. search rules) (λ c. search rules) returns)
+pub pier_suppliers_spec : {M : Type 1} → statement M
+pier_suppliers_spec = tie.close (tie.spec (λ c κs. search rules) (λ c κs. search rules) (λ c. search rules) returns)

@@ -8,8 +8,8 @@ use Rattle.pierstride.proofs.pier_to_text.Tie as tie
 
 returns : tie.Need-returns
 returns c =
-    let call = c.before.before.before.to-text.ensures in
-    (c.answer-of.ensures ∙ ap written_by call.0 ∙ written_shown _, call.1)
+    let call = c.to_text.ensures in
+    (c.answer_of.ensures ∙ ap written_by call.0 ∙ written_shown _, call.1)
 
-pub pier-to-text-spec : {M : Type 1} → statement M
-pier-to-text-spec = tie.close (tie.spec (λ c κs. search rules) (λ c κs. search rules) (λ c. search rules) returns)
+pub pier_to_text_spec : {M : Type 1} → statement M
+pier_to_text_spec = tie.close (tie.spec (λ c κs. search rules) (λ c κs. search rules) (λ c. search rules) returns)

@@ -9,44 +9,31 @@ use borrow.Author.Rules.{rules}
 use Rattle.pierstride.proofs.pier_verdict.Statement.{statement}
 use Rattle.pierstride.proofs.pier_verdict.Tie as tie
 
--- once the table was read: the call's start, and what the reading stands for
-abbrev start-at : tie.After-enum-told → tie.Start
-start-at c = c.before.before.before.before
+open_at : (c : tie.In-Read) → Opened c.args.table.now c.read-got.result
+open_at c = opened c.args.table.now c.read-got.result c.read-got.ensures c.in-Read.is
 
-open_at : (c : tie.After-enum-told) → Opened (start-at c).args.table.now c.before.before.read.result
-open_at c = opened (start-at c).args.table.now c.before.before.read.result c.before.before.read.ensures c.enum_told.given.1
-
-returns : tie.Need-returns
+returns : tie.Need-returns-in_default
 unfolding says_verdict
 returns c =
-    let told = c.before.before in
-    let got = told.before.before in
-    let s = got.before.before.args.table.now in
-    passed_on verdict_of _ s got.read.result.why c.no-verdict.result (turned s got.read.result got.read.ensures told.enum-told2.given.1)
-    c.no-verdict.ensures
+    let s = c.args.table.now in
+    passed_on verdict_of _ s c.read-got.result.why c.no_verdict.result (turned s c.read-got.result c.read-got.ensures c.in_default.is)
+    c.no_verdict.ensures
 
-returns_2 : tie.Need-returns-2
+returns_2 : tie.Need-returns-then-why-ne0
 returns_2 c =
-    let asked = c.before.before.before in
-    let told = asked.before.before.before in
-    let start = (start-at told).args in
-    let why = asked.asked-wrongly in
-    c.no-verdict2.ensures ∙ ap (λ (why : Refusal). verdict_of (refusing why)) c.before.of.ensures
-    ∙ verdict_refuses (open_at told) start.question start.budget why.result why.ensures c.before.before.if1.true
+    let start = c.args in
+    c.no_verdict-then-why-ne0.ensures ∙ ap (λ (why : Refusal). verdict_of (refusing why)) c.of.ensures
+    ∙ verdict_refuses (open_at c.before.before.before.before.before.before) start.question start.budget c.asked_wrongly-why.result c.asked_wrongly-why.ensures c.if-why-ne0.true
 
-returns_3 : tie.Need-returns-3
+returns_3 : tie.Need-returns
 returns_3 c =
-    let asked = c.before.before.before in
-    let told = asked.before.before.before in
-    let start = (start-at told).args in
-    let why = asked.asked-wrongly in
-    let reply = c.before.verdict in
+    let start = c.args in
     c.replied.ensures
-    ∙ verdict_answers (open_at told) start.question start.budget why.result why.ensures c.before.before.if1.false reply.result
-    reply.ensures
+    ∙ verdict_answers (open_at c.before.before.before.before.before.before) start.question start.budget c.asked_wrongly-why.result c.asked_wrongly-why.ensures c.if-why-ne0.false c.verdict.result
+    c.verdict.ensures
 
-pub pier-verdict-spec : {M : Type 1} → statement M
-pier-verdict-spec =
+pub pier_verdict_spec : {M : Type 1} → statement M
+pier_verdict_spec =
     tie.close
     (tie.spec
     (λ c κs. search rules)
