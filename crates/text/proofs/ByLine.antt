@@ -26,7 +26,8 @@ use Rattle.table.specs.Contents.{written}
 use Rattle.table.proofs.Writing.{begins_own}
 use Rattle.table.proofs.Decoding.{took, turned_away}
 use Rattle.text.specs.declared.lines.Line.{Line}
-use Rattle.decimal.specs.Decimal.{value, too_large, well_spelled, space, line_feed}
+use Rattle.text.specs.Decimal.{value, too_large, well_spelled}
+use Rattle.text.specs.Lines.{space, line_feed}
 use Rattle.entries.specs.Lists.{some, every}
 use Rattle.text.specs.Texts.{Pieces, split, misspelling, line_by, line_says, on_line, last_says, lines_say, ended_by}
 use Rattle.text.specs.Inner.{row_spelled, line_from, said_from}

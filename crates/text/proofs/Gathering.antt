@@ -30,7 +30,7 @@ use Rattle.table.proofs.Permission.{refused_inside}
 use Rattle.table.proofs.Writing.{Whole, Open, calm, settled_same, none_whole, whole_open, written_append, whole_accepted}
 use Rattle.table.proofs.Turns.{with_force}
 use Rattle.table.proofs.Laws.{open_short}
-use Rattle.decimal.specs.Decimal.{line_feed}
+use Rattle.text.specs.Lines.{line_feed}
 use Rattle.text.specs.Texts.{on_line, spelled, split}
 use Rattle.text.specs.Calls.{line_at, by_line, from_text}
 use Rattle.text.specs.Inner.{row_spelled, said_from, bad_from, own_unless, gather_limit}

@@ -1,6 +1,8 @@
 -- Laws of texts; below this file, a folder for each function that has a proof of its own.
 pub mod Examples
+pub mod Numerals
 pub mod Splitting
+pub mod Stores
 pub mod Filling
 pub mod OneLine
 pub mod Scanning

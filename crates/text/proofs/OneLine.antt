@@ -26,11 +26,11 @@ use Rattle.entries.proofs.Saying.{not_both, unless_none, unless_answered}
 use Rattle.table.specs.Steps.{number_at, entry_of}
 use Rattle.table.specs.Whole.{Tidy}
 use Rattle.table.proofs.Writing.{front_of, trim, number_front}
-use Rattle.decimal.specs.Decimal.{is_digit, decimal, digits_alone, value, too_large, well_spelled, space, line_feed}
-use Rattle.text.specs.Lines.{each, line_of}
+use Rattle.text.specs.Decimal.{is_digit, decimal, digits_alone, value, too_large, well_spelled}
+use Rattle.text.specs.Lines.{space, line_feed, each, line_of}
 use Rattle.entries.specs.Lists.{some, every}
 use Rattle.text.specs.Texts.{Pieces, split, misspelling, line_by, line_says}
-use Rattle.decimal.proofs.Numerals.{digit_of, decimal_alone, value_decimal, decimal_well, decimal_small, decimal_value}
+use Rattle.text.proofs.Numerals.{digit_of, decimal_alone, value_decimal, decimal_well, decimal_small, decimal_value}
 use Rattle.text.proofs.Splitting.{split_joined, free, above_free, split_each}
 
 -- an entry whose numbers are bytes, 0 where its kind has none

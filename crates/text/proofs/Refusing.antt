@@ -22,8 +22,7 @@ use Rattle.table.specs.Reading.{reading}
 use Rattle.table.proofs.Permission.{permitted_own, refused_inside}
 use Rattle.table.proofs.Writing.{none_whole, whole_open, whole_accepted}
 use Rattle.table.proofs.Speaking.{refused_at, not_zero}
-use Rattle.text.specs.Lines.{each, line_of, text_of}
-use Rattle.decimal.specs.Decimal.{line_feed}
+use Rattle.text.specs.Lines.{line_feed, each, line_of, text_of}
 use Rattle.entries.specs.Lists.{every}
 use Rattle.text.specs.Texts.{Pieces, split, line_says, on_line, lines_say, spelled, ended_by}
 use Rattle.text.specs.Calls.{line_at, by_line, from_text}

@@ -21,11 +21,12 @@ use Rattle.entries.specs.Refusals.{unknown_word, misspelt}
 use Rattle.entries.specs.Said.{Said, answered, refusing, refusal, and_then, unless}
 use Rattle.kinds.specs.Words.{kind_spelled}
 use Rattle.table.specs.Steps.{number_at, entry_of, shown_step}
-use Rattle.decimal.specs.Decimal.{value, too_large, well_spelled, number_with, number_said, space, line_feed}
+use Rattle.text.specs.Decimal.{value, too_large, well_spelled}
 use Rattle.entries.specs.Lists.{some, every}
 use Rattle.entries.proofs.Lists.{none_append}
 use Rattle.text.specs.Texts.{Pieces, split, misspelling, line_by, line_says}
-use Rattle.text.specs.Inner.{pieces_behind, line_from}
+use Rattle.text.specs.Inner.{number_with, number_said, pieces_behind, line_from}
+use Rattle.text.specs.Lines.{space, line_feed}
 use Rattle.text.proofs.Splitting.{split_front, first_within, behind_some}
 
 -- a piece's value, 0 where it is not spelled well

@@ -1,16 +1,25 @@
--- What the promises of the parts mean: the pieces behind a place, a line by itself, and what the lines from a place on spell.
+-- What the promises of the parts mean: a piece as a number, the pieces behind a place, a line by itself, and what the lines from a place on spell.
 use Rattle.std.specs.Prelude.{ℕ, ◌+◌, ◌≤◌, ◌≡◌, Bool, true, false, cond, List, [], ◌∷◌, length, take, eqb}
 use Rattle.entries.specs.declared.Entry.{Entry}
 use Rattle.entries.specs.declared.refusals.Refusal.{Refusal}
 use Rattle.entries.specs.Said.{Said, answered, why_of}
 use Rattle.entries.specs.Entries.{supplier_size}
 use Rattle.table.specs.Steps.{byte_limit, shown_step}
+use Rattle.text.specs.declared.decimal.Number.{Number}
 use Rattle.text.specs.declared.lines.Line.{Line}
 use Rattle.text.specs.declared.Gathered.{Gathered}
+use Rattle.text.specs.Decimal.{value, too_large, well_spelled}
 use Rattle.kinds.specs.Kinds.{of_row}
 use Rattle.kinds.specs.Words.{kind_spelled}
-use Rattle.decimal.specs.Decimal.{space, line_feed}
+use Rattle.text.specs.Lines.{space, line_feed}
 use Rattle.text.specs.Texts.{Pieces, split, line_says, ended_by, lines_say}
+
+-- a piece as a number
+abbrev pub number_with : Bool → Bool → ℕ → Number
+number_with large good value = record { large = large; good = good; value = value }
+
+unfoldable pub number_said : List ℕ → Number
+number_said piece = cond (too_large piece) (number_with true false 0) (cond (well_spelled piece) (number_with false true (value piece)) (number_with false false 0))
 
 -- the pieces of what is left: one behind the separator that it begins with, and so on
 abbrev pub pieces_behind : ℕ → List ℕ → List (List ℕ)

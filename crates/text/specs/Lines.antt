@@ -3,7 +3,13 @@ use Rattle.std.specs.Prelude.{ℕ, List, [], ◌∷◌, ◌++◌, map}
 use Rattle.kinds.specs.Words.{word_of}
 use Rattle.entries.specs.declared.Entry.{Entry}
 use Rattle.entries.specs.Entries.{numbers_in}
-use Rattle.decimal.specs.Decimal.{decimal, space, line_feed}
+use Rattle.text.specs.Decimal.{decimal}
+
+abbrev pub space : ℕ
+space = 32
+
+abbrev pub line_feed : ℕ
+line_feed = 10
 
 -- pieces one after the other, a separator before each
 abbrev pub each : ℕ → List (List ℕ) → List ℕ

@@ -9,8 +9,7 @@ use Rattle.table.specs.Steps.{begins_row, placed, permitted}
 use Rattle.table.specs.Contents.{Contents, tally_of, entries, written}
 use Rattle.table.specs.Places.{Reached}
 use Rattle.table.specs.Reading.{reading}
-use Rattle.text.specs.Lines.{text_of}
-use Rattle.decimal.specs.Decimal.{line_feed}
+use Rattle.text.specs.Lines.{line_feed, text_of}
 use Rattle.text.specs.Texts.{split, line_says, spelled, ended_by}
 
 -- 12 or 13: the lines before are spelled well, and the line itself says so

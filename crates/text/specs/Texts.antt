@@ -10,7 +10,8 @@ use Rattle.entries.specs.Lists.{some, every}
 use Rattle.entries.specs.Refusals.{unknown_word, misspelt}
 use Rattle.entries.specs.Said.{Said, answered, refusing, refusal, and_then, unless}
 use Rattle.table.specs.Steps.{entry_of}
-use Rattle.decimal.specs.Decimal.{value, too_large, well_spelled, space, line_feed}
+use Rattle.text.specs.Decimal.{value, too_large, well_spelled}
+use Rattle.text.specs.Lines.{space, line_feed}
 
 -- bytes cut at each separator: what stands before the first, and the pieces behind each
 pub record Pieces : Type 0 where

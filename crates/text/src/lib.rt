@@ -1,6 +1,7 @@
 // The text of a table, one line an entry, that a survey office can read and send back; and the table that a text spells.
 #![tactic(auto)]
 
+pub mod decimal;
 pub mod lines;
 
 ghost use Rattle.std.specs.Prelude.{◌≡◌, ◌++◌, ◌+◌, ◌≤◌, length, drop, take};

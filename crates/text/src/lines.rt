@@ -6,17 +6,22 @@ ghost use Rattle.kinds.specs.Words.{word_of, kind_spelled};
 ghost use Rattle.entries.specs.Said.{refusal};
 ghost use Rattle.table.specs.Steps.{shown_step};
 ghost use Rattle.table.specs.Suppliers.{change};
-ghost use Rattle.decimal.specs.Decimal.{decimal, space, line_feed};
+ghost use Rattle.text.specs.Decimal.{decimal};
 ghost use Rattle.entries.specs.Entries.{numbers_in};
-ghost use Rattle.text.specs.Lines.{each, line_of, text_of};
+ghost use Rattle.text.specs.Lines.{each, line_of, text_of, space, line_feed};
 ghost use Rattle.text.specs.Texts.{split, line_by, line_says};
 ghost use Rattle.text.specs.Inner.{pieces_behind, row_spelled, line_from};
 
+use crate::decimal;
 use entries::refusals::Refusal;
 use entries::{Entry, refusals};
 use kinds::{Announced, Kind, words};
 use table::steps::Step;
 use table::suppliers;
+
+const SPACE: u8 = b' ';
+
+const LINE_FEED: u8 = b'\n';
 
 // A kind's word from a place of an output on.
 fn put_word(out: &mut [u8], at: usize, kind: Kind) -> usize
@@ -38,8 +43,8 @@ fn put_number(out: &mut [u8], at: usize, n: u8) -> usize
     ensures length { result ≡ at + length (each space (decimal n ∷ [])) }
     ensures output { out.new ≡ sets out.old at (each space (decimal n ∷ [])) }
 {
-    let next = decimal::put_byte(out, at, decimal::SPACE);
-    decimal::put_decimal(out, next, n as usize)
+    let next = decimal::put_byte(out, at, SPACE);
+    decimal::put_decimal(out, next, n)
 }
 
 // An entry's numbers, a space before each.
@@ -68,7 +73,7 @@ fn put_line(out: &mut [u8], at: usize, e: Entry) -> usize
     let kind = e.kind;
     let word = put_word(out, at, kind);
     let numbers = put_numbers(out, word, e);
-    decimal::put_byte(out, numbers, decimal::LINE_FEED)
+    decimal::put_byte(out, numbers, LINE_FEED)
 }
 
 // An entry's line, behind that of its supplier where the one in force is another.
@@ -86,23 +91,23 @@ pub(crate) fn put_lines(out: &mut [u8], at: usize, force: u8, s: u8, e: Entry) -
 
 // How many bytes an entry's numbers take, a space before each.
 fn numbers_size(e: Entry) -> usize
-    ensures { (result ≡ length (each space (map decimal (numbers_in e)))) × (result ≤ 42) }
+    ensures { (result ≡ length (each space (map decimal (numbers_in e)))) × (result ≤ 8) }
 {
     let kind = e.kind;
     let numbers = entries::body_size(kind);
     if numbers == 0 {
         return 0;
     }
-    let first = decimal::decimal_size(e.a as usize) + 1;
+    let first = decimal::decimal_size(e.a) + 1;
     if numbers == 1 {
         return first;
     }
-    first + (decimal::decimal_size(e.b as usize) + 1)
+    first + (decimal::decimal_size(e.b) + 1)
 }
 
 // How many bytes an entry's line has.
 fn line_size(e: Entry) -> usize
-    ensures { (result ≡ length (line_of e)) × (result ≤ 64) }
+    ensures { (result ≡ length (line_of e)) × (result ≤ 30) }
 {
     let kind = e.kind;
     let word = words::word_of(kind);
@@ -111,7 +116,7 @@ fn line_size(e: Entry) -> usize
 
 // How many bytes it has with that of its supplier, where the one in force is another.
 pub(crate) fn lines_size(force: u8, s: u8, e: Entry) -> usize
-    ensures { (result ≡ length (text_of (change force s ++ (e ∷ [])))) × (result ≤ 128) }
+    ensures { (result ≡ length (text_of (change force s ++ (e ∷ [])))) × (result ≤ 60) }
 {
     if s == force {
         return line_size(e);
@@ -160,7 +165,7 @@ fn numbers_at(line: &[u8], end: usize, kind: Kind) -> Step
     let mut b = 0;
     while at < line.len() {
         let from = at + 1;
-        let to = next_of(line, from, decimal::SPACE);
+        let to = next_of(line, from, SPACE);
         let number = decimal::number_of(&line[from..to]);
         if number.large {
             return bad(refusals::UNKNOWN_WORD);
@@ -181,7 +186,7 @@ fn numbers_at(line: &[u8], end: usize, kind: Kind) -> Step
 fn line_of(line: &[u8]) -> Step
     ensures { result ≡ shown_step (line_says line.now) }
 {
-    let end = next_of(line, 0, decimal::SPACE);
+    let end = next_of(line, 0, SPACE);
     let announced = words::kind_of_word(&line[0..end]);
     match announced {
         Announced::Listed(kind) => numbers_at(line, end, kind),
@@ -193,7 +198,7 @@ fn line_of(line: &[u8]) -> Step
 fn row_word(line: &[u8]) -> bool
     ensures { result ≡ of_row (kind_spelled (split space line.now).first) }
 {
-    let end = next_of(line, 0, decimal::SPACE);
+    let end = next_of(line, 0, SPACE);
     kinds::of_row(words::kind_of_word(&line[0..end]))
 }
 
@@ -202,7 +207,7 @@ pub(crate) fn row_line(text: &[u8], at: usize) -> bool
     requires { at ≤ length text.now }
     ensures { result ≡ row_spelled (drop at text.now) }
 {
-    let end = next_of(text, at, decimal::LINE_FEED);
+    let end = next_of(text, at, LINE_FEED);
     row_word(&text[at..end])
 }
 
@@ -218,7 +223,7 @@ pub(crate) fn line_at(text: &[u8], at: usize) -> Line
     requires { at < length text.now }
     ensures { result ≡ line_from at (split line_feed (drop at text.now)) }
 {
-    let end = next_of(text, at, decimal::LINE_FEED);
+    let end = next_of(text, at, LINE_FEED);
     let said = line_of(&text[at..end]);
     if end < text.len() {
         return Line {

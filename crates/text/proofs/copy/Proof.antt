@@ -4,7 +4,7 @@ use Prim.Native.Nat.{◌+◌, ◌-◌, ◌≤◌, ◌<◌}
 use native.Mathlib.Omega.{arith}
 use lib.ListN.{length, take}
 use lib.Seq.{sets, length-sets, length-take-le}
-use Rattle.decimal.proofs.Stores.{sets_front, sets_next}
+use Rattle.text.proofs.Stores.{sets_front, sets_next}
 use borrow.Author.Rules.{rules}
 use Rattle.text.proofs.copy.Statement.{statement}
 use Rattle.text.proofs.copy.Tie as tie

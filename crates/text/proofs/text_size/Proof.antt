@@ -13,7 +13,7 @@ use Rattle.text.proofs.text_size.Tie as tie
 
 abbrev invariant-loop : tie.invariant-loop-i
 invariant-loop t bound ruled count size₀ force₀ i₀ size force i =
-    (i ≤ count) × (size ≡ length (text_to t i)) × (force ≡ in_force t i) × (size ≤ 128 * i)
+    (i ≤ count) × (size ≡ length (text_to t i)) × (force ≡ in_force t i) × (size ≤ 60 * i)
 
 abbrev decreases-loop : tie.decreases-loop-i
 decreases-loop t bound ruled count size₀ force₀ i₀ size force i = count - i

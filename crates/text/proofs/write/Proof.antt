@@ -12,7 +12,7 @@ use Rattle.table.specs.Reading.{contents_in, held}
 use Rattle.table.proofs.Held.{unmarked, all_owners, in_force, unmarked_at, owner_at}
 use Rattle.text.specs.Lines.{text_of}
 use Rattle.text.proofs.Filling.{text_to, text_more, size_more, force_behind, text_within, text_all}
-use Rattle.decimal.proofs.Stores.{sets_front, from_front}
+use Rattle.text.proofs.Stores.{sets_front, from_front}
 use borrow.Author.Rules.{rules}
 use Rattle.text.proofs.write.Statement.{statement}
 use Rattle.text.proofs.write.Tie as tie

@@ -10,7 +10,7 @@ use Rattle.entries.specs.Said.{Said, refusing, refusal, and_then}
 use Rattle.table.specs.declared.steps.Step.{Step}
 use Rattle.table.specs.Steps.{shown_step}
 use Rattle.table.proofs.Decoding.{took, turned_away}
-use Rattle.decimal.specs.Decimal.{line_feed}
+use Rattle.text.specs.Lines.{line_feed}
 use Rattle.text.specs.Texts.{split, line_says}
 use Rattle.text.proofs.Scanning.{piece_between, end_within, line_whole, line_last}
 use borrow.Author.Rules.{rules}

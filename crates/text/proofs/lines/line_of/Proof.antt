@@ -4,7 +4,7 @@ use native.Mathlib.Omega.{arith}
 use lib.ListN.{drop}
 use Rattle.kinds.specs.declared.Announced.{Announced}
 use Rattle.table.specs.Steps.{shown_step}
-use Rattle.decimal.specs.Decimal.{space}
+use Rattle.text.specs.Lines.{space}
 use Rattle.text.specs.Texts.{line_by}
 use Rattle.text.specs.Inner.{pieces_behind}
 use Rattle.text.proofs.Splitting.{first_within}

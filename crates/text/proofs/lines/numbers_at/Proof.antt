@@ -6,14 +6,15 @@ use Rattle.kinds.specs.Kinds.{form_of}
 use Prim.Native.Nat.{ℕ, ◌+◌, ◌-◌, ◌≤◌}
 use native.Mathlib.Omega.{arith}
 use lib.ListN.{length, drop, drop_of_length-le}
-use Rattle.decimal.specs.Decimal.{space, too_large, well_spelled, number_said}
+use Rattle.text.specs.Lines.{space}
 use mathlib.Core.List.{List, ◌∷◌}
-use Rattle.decimal.specs.declared.Number.{Number}
+use Rattle.text.specs.declared.decimal.Number.{Number}
+use Rattle.text.specs.Decimal.{too_large, well_spelled}
 use Rattle.text.specs.Texts.{split}
 use Rattle.table.specs.Steps.{shown_step}
 use Rattle.entries.specs.Refusals.{misspelt}
 use Rattle.entries.specs.Said.{answered, refusing, refusal}
-use Rattle.text.specs.Inner.{pieces_behind}
+use Rattle.text.specs.Inner.{number_said, pieces_behind}
 use Rattle.text.proofs.Scanning.{scan, scan_end, scan_large, scan_small, scan_all, worth, next_piece, piece_between, is_large, is_small}
 use borrow.Author.Rules.{rules}
 use Rattle.text.proofs.lines.numbers_at.Statement.{statement}

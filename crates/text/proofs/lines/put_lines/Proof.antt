@@ -7,7 +7,7 @@ use native.Mathlib.Omega.{arith}
 use Rattle.table.specs.Suppliers.{supplying, change}
 use Rattle.text.specs.Lines.{line_of, text_of}
 use Rattle.text.proofs.Filling.{same_lines, other_lines}
-use Rattle.decimal.proofs.Stores.{sets_append}
+use Rattle.text.proofs.Stores.{sets_append}
 use borrow.Author.Rules.{rules}
 use Rattle.text.proofs.lines.put_lines.Statement.{statement}
 use Rattle.text.proofs.lines.put_lines.Tie as tie

@@ -4,10 +4,10 @@ use mathlib.Core.List.{[], ◌∷◌}
 use native.Mathlib.Omega.{arith}
 use lib.ListN.{length, length-append}
 use Rattle.entries.specs.Entries.{numbers_of}
-use Rattle.decimal.specs.Decimal.{decimal, space}
-use Rattle.text.specs.Lines.{each}
+use Rattle.text.specs.Decimal.{decimal}
+use Rattle.text.specs.Lines.{space, each}
 use Rattle.text.proofs.OneLine.{no_numbers, one_number, two_numbers, first_fits}
-use Rattle.decimal.proofs.Stores.{sets_append}
+use Rattle.text.proofs.Stores.{sets_append}
 use borrow.Author.Rules.{rules}
 use Rattle.text.proofs.lines.put_numbers.Statement.{statement}
 use Rattle.text.proofs.lines.put_numbers.Tie as tie

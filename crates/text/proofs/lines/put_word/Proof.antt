@@ -10,7 +10,7 @@ use Rattle.kinds.specs.declared.Kind.{Kind}
 use Rattle.kinds.specs.declared.words.Word.{Word}
 use Rattle.kinds.specs.Words.{word_of, shown_word, letter_at}
 use Rattle.kinds.proofs.Spelling.{first_letters, letters_count, first_letters_lem}
-use Rattle.decimal.proofs.Stores.{sets_append}
+use Rattle.text.proofs.Stores.{sets_append}
 use borrow.Author.Rules.{rules}
 use Rattle.text.proofs.lines.put_word.Statement.{statement}
 use Rattle.text.proofs.lines.put_word.Tie as tie

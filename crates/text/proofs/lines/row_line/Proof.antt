@@ -4,7 +4,7 @@ use mathlib.Core.List.{List}
 use Prim.Native.Nat.{ℕ}
 use Rattle.kinds.specs.Kinds.{of_row}
 use Rattle.kinds.specs.Words.{kind_spelled}
-use Rattle.decimal.specs.Decimal.{space, line_feed}
+use Rattle.text.specs.Lines.{space, line_feed}
 use Rattle.text.specs.Texts.{split}
 use Rattle.text.specs.Inner.{row_spelled}
 use Rattle.text.proofs.Scanning.{piece_between, end_within}

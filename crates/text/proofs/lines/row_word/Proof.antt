@@ -5,7 +5,7 @@ use native.Mathlib.Omega.{arith}
 use Prim.Native.Nat.{ℕ}
 use Rattle.kinds.specs.Kinds.{of_row}
 use Rattle.kinds.specs.Words.{kind_spelled}
-use Rattle.decimal.specs.Decimal.{space}
+use Rattle.text.specs.Lines.{space}
 use Rattle.text.proofs.Splitting.{first_within}
 use Rattle.text.proofs.Scanning.{piece_between}
 use borrow.Author.Rules.{rules}
