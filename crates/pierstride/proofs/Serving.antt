@@ -166,7 +166,7 @@ module _ {s : List ℕ} {got : Reading} (o : Opened s got) where
     verdict_answers e p q =
         let t = got.table in
         let c = o.contents in
-        let same = same_walk c.constraints t.rows c.rows t.questions c.questions rows_at questions_at at (predicates c) in
+        let same = same_walk c.constraints t.rows c.rows t.questions c.questions rows_at questions_at (predicates c) at in
         let fits = verdict_fits e in
         let n : min t.predicates predicate_limit ≡ predicates c = omega (arith, predicates_is, fits.1) in
         let d : p ≡ walked = q ∙ rw (lt-ltb at question_limit fits.0, n, bounds_are) (ap (reply_of budget) same) in

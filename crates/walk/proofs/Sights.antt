@@ -80,6 +80,9 @@ module _ (constraints rows questions : List Entry) (run asked : List ℕ) (m o s
     pub run_same : sees constraints (entries_in row_part) (entries_in question_part) j ≡ sees constraints rows questions j
     run_same = fun_ext (λ known. fun_ext (λ facts. run_sees known facts))
 
+    pub run_walk : (n : ℕ) → walk_by (sees constraints (entries_in row_part) (entries_in question_part) j) n ≡ walk constraints rows questions n j
+    run_walk n = ap (λ (see : ℕ → ℕ → Look). walk_by see n) run_same
+
 -- a visit, and so a walk, goes by what stands at each number alone
 module _ (constraints rows fewer questions asked : List Entry) (p : (i : ℕ) → get_or rows i blank ≡ get_or fewer i blank)
     (q : (i : ℕ) → get_or questions i blank ≡ get_or asked i blank) (j : ℕ) where
@@ -90,5 +93,8 @@ module _ (constraints rows fewer questions asked : List Entry) (p : (i : ℕ) �
       (ap (λ (f : ℕ → Set decisions). value_at (asks_set f) (single true) questions j) sets
       ∙ same_value (asks_set (possible fewer known facts)) (single true) questions asked j (λ i l. q i))))
 
-  pub same_walk : (n : ℕ) → walk constraints rows questions n j ≡ walk constraints fewer asked n j
-  same_walk n = ap (λ (see : ℕ → ℕ → Look). walk_by see n) same_sees
+pub same_walk : (constraints rows fewer questions asked : List Entry) → ((i : ℕ) → get_or rows i blank ≡ get_or fewer i blank) →
+    ((i : ℕ) → get_or questions i blank ≡ get_or asked i blank) →
+    (n j : ℕ) → walk constraints rows questions n j ≡ walk constraints fewer asked n j
+same_walk constraints rows fewer questions asked p q n j =
+    ap (λ (see : ℕ → ℕ → Look). walk_by see n) (same_sees constraints rows fewer questions asked p q j)

@@ -92,8 +92,7 @@ all c = omega (arith, top_is c.before)
 
 walk_from_requires : tie.Need-walk_from-requires
 walk_from_requires c κs =
-    let a = c.args in
-    (
+    let a = c.args in (
       lent (bounds_in a.t) a.t.rows a.t.questions c.flat-run.result c.flat-asked.result (per_entry * row_limit) (per_entry * row_limit)
           c.top_of-top.result a.question (run_is c.before.before.before.before.before.before) (asked_is c.before.before.before.before.before.before.before.before.before) (all c.before.before.before.before.before.before) (omega (arith, c.top_of-top.ensures.1)) (omega (arith, room c.before.before.before.before.before.before))
           (replicate row_limit 0) (replicate question_limit 0)
