@@ -1,6 +1,8 @@
 // The program of document 01: reads a table from standard input and prints the verdict on each of its questions.
 #![tactic(auto)]
 
+ghost use Rattle.std.specs.Prelude.{◌≤◌, length, IfOk};
+
 use pierstride::Verdict;
 use std::io;
 use std::io::Read;
@@ -8,7 +10,7 @@ use std::io::Read;
 const BUDGET: u32 = 1000000;
 
 // How many bytes are read. A table longer than that is refused within them.
-const MOST: u64 = 4096;
+const MOST: usize = 4096;
 
 fn text(rt: &impl Print, bytes: &[u8]) -> io::Result<()> {
     rt.write_all(bytes)
@@ -67,8 +69,24 @@ fn print_verdicts(rt: &impl Print, table: &[u8]) -> io::Result<()> {
     Ok(())
 }
 
+// Fills the buffer from the input as far as that goes, and tells how far.
+fn read_full(input: &mut impl Read, buffer: &mut [u8]) -> io::Result<usize>
+    ensures { IfOk result (λ end. end ≤ length buffer.new) }
+{
+    let mut end = 0;
+    while end < buffer.len() {
+        let more = input.read(&mut buffer[end..])?;
+        if more == 0 {
+            break;
+        }
+        end += more;
+    }
+    Ok(end)
+}
+
+// A table longer than the buffer is refused within it.
 fn main(rt: HostRuntime) -> io::Result<()> {
-    let mut table = Vec::new(rt.alloc());
-    rt.stdin().take(MOST).read_to_end(&mut table)?;
-    print_verdicts(&rt, table.as_slice())
+    let mut buffer = [0; MOST];
+    let end = read_full(&mut rt.stdin(), &mut buffer)?;
+    print_verdicts(&rt, &buffer[..end])
 }
