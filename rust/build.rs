@@ -1,4 +1,4 @@
-//! Links `libpierstride.a` from the directory that `PIERSTRIDE_LIB` names, or else from where `rt staticlib pierstride` puts it.
+//! Links `libpierstride.a` from the directory that `PIERSTRIDE_LIB` names, or else from where `make desk` puts it.
 
 fn main() {
     println!("cargo:rerun-if-env-changed=PIERSTRIDE_LIB");

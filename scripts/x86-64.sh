@@ -82,5 +82,5 @@ WRAP
 
 # need_library: for a script that links the static library.
 need_library() {
-    [[ -f $library/libpierstride.a ]] || give_up "libpierstride.a is not in $library: rt staticlib pierstride makes it"
+    [[ -f $library/libpierstride.a ]] || give_up "libpierstride.a is not in $library: make desk makes it"
 }
