@@ -65,13 +65,15 @@ module _ (A : ℕ → Bool) (layout : Layout) where
       go zero l on = let q : i + 0 ≡ i = omega arith in rw q both.0
       go (suc j) l on = let q : i + suc j ≡ suc i + j = omega arith in rw q (on j (omega arith))
 
-  pub all_entries : (i : ℕ) (es : List Entry) → ((k : ℕ) → k < length es → Satisfied (i + k) (get_or es k blank)) → satisfies A (clauses_from layout i es) ≡ true
+  pub all_entries : (i : ℕ) (es : List Entry) → ((k : ℕ) → k < length es → Satisfied (i + k) (get_or es k blank)) →
+      satisfies A (clauses_from layout i es) ≡ true
   unfolding clauses_from
   all_entries i [] h = refl
   all_entries i (e ∷ es) h =
       let none : i + 0 ≡ i = omega arith in
       satisfies_append A (entry_clauses layout i e) (clauses_from layout (suc i) es)
-      ∙ ap₂ ◌&&◌ (rw none at (h 0 (omega arith))) (all_entries (suc i) es (λ k l. let q : suc i + k ≡ i + suc k = omega arith in rw q (h (suc k) (omega arith))))
+      ∙ ap₂ ◌&&◌ (rw none at (h 0 (omega arith))) (all_entries (suc i) es (λ k l. let q : suc i + k ≡ i + suc k = omega arith in
+      rw q (h (suc k) (omega arith))))
 
 -- an accepted table, and an assignment that says yes to the predicates of a request
 module _ (s : List ℕ) (c : Contents) (is : reading s ≡ answered c) (A : ℕ → Bool) (m : ℕ) (bits : (p : ℕ) → p < predicates c → A (p + 1) ≡ bit m p) where
@@ -160,7 +162,8 @@ module _ (s : List ℕ) (c : Contents) (is : reading s ≡ answered c) (A : ℕ 
   constraint_clauses i (Question k) a b h l g = never (sym h)
   constraint_clauses i Supplier a b h l g = never (sym h)
 
-  constraints_at : (i : ℕ) (es : List Entry) → Each ConstraintAt i es → highest es ≤ predicates c → satisfies A (clauses_from layout i es) ≡ every (kept_by m) es
+  constraints_at : (i : ℕ) (es : List Entry) → Each ConstraintAt i es → highest es ≤ predicates c →
+      satisfies A (clauses_from layout i es) ≡ every (kept_by m) es
   unfolding clauses_from highest
   constraints_at i [] h l = refl
   constraints_at i (e ∷ es) h l =
@@ -203,7 +206,8 @@ module _ (s : List ℕ) (c : Contents) (is : reading s ≡ answered c) (A : ℕ 
       where
         rows : satisfies A (clauses_from layout 0 c.rows) ≡ true → Rows
         rows h = by_rows (λ r. r < length c.rows → heard r ≡ decision c.rows m r) (λ r ih l.
-            same_is (heard r) (decision c.rows m r) (sym (row_at r l (λ x k. ih x k (omega arith))) ∙ (rw (zero-add r) at (each_entry A layout 0 c.rows h r l))))
+            same_is (heard r) (decision c.rows m r) (sym (row_at r l (λ x k. ih x k (omega arith)))
+            ∙ (rw (zero-add r) at (each_entry A layout 0 c.rows h r l))))
 
         questions : Rows → satisfies A (clauses_from layout 0 c.questions) ≡ true → (x : ℕ) → x < length c.questions →
             said x ≡ truth c.rows c.questions m x

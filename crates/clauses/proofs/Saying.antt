@@ -102,7 +102,8 @@ module _ (A : ℕ → Bool) where
         everywhere (λ o w x y. alike (row_says kind said o w x y) (same w (f x y))) ≡ true → row_says kind said Truth w x y ≡ same w (f x y)
     computed kind said f e = one_outcome (row_says kind said) (λ o w x y. same w (f x y)) e Truth w x y
 
-    pub row_says_lem : (kind : RowKind) (p predicate request n : ℕ) → used_by (form_of (Row kind)).names predicate ≤ n → (predicate < n → A p ≡ bit request predicate) →
+    pub row_says_lem : (kind : RowKind) (p predicate request n : ℕ) → used_by (form_of (Row kind)).names predicate ≤ n →
+        (predicate < n → A p ≡ bit request predicate) →
         satisfies A (spelled (row_rules kind (yes p) (claims g d) (claims gx dx) (claims gy dy))) ≡ same w (decide_by kind predicate request x y)
     unfolding decide_by
     row_says_lem (Always U) p predicate request n u h = rw (hg, hd) (computed (Always U) true (λ x y. U) refl)

@@ -52,7 +52,8 @@ abbrev pub number_with : Bool → Bool → ℕ → Number
 number_with large good value = record { large = large; good = good; value = value }
 
 unfoldable pub number_said : List ℕ → Number
-number_said piece = cond (too_large piece) (number_with true false 0) (cond (well_spelled piece) (number_with false true (value piece)) (number_with false false 0))
+number_said piece = cond (too_large piece) (number_with true false 0)
+    (cond (well_spelled piece) (number_with false true (value piece)) (number_with false false 0))
 
 abbrev pub space : ℕ
 space = 32

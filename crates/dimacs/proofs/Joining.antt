@@ -89,7 +89,13 @@ module _ (xs ys zs : List (List Literal)) (l : List Literal) where
   pub long_over : length (text_of over) ≡ length (text_of xs) + (length (text_of ys) + (length (text_of zs) + length (clause_text l)))
   long_over =
       let last = text_of zs ++ clause_text l in
-      omega (arith, ap length text_over, length-append (text_of xs) (text_of ys ++ last), length-append (text_of ys) last, length-append (text_of zs) (clause_text l))
+      omega (
+        arith,
+        ap length text_over,
+        length-append (text_of xs) (text_of ys ++ last),
+        length-append (text_of ys) last,
+        length-append (text_of zs) (clause_text l),
+      )
 
   pub count_over : length over ≡ length xs + (length ys + (length zs + 1))
   count_over = omega (arith, length-append xs (ys ++ (zs ++ (l ∷ []))), length-append ys (zs ++ (l ∷ [])), length-append zs (l ∷ []))
@@ -116,13 +122,15 @@ module _ (layout : Layout) where
       ∙ sym (from_first pieces (length es))
 
   pub entry_clauses_lem : (es : List Entry) → clauses_from layout 0 es ≡ joined (clauses_at es) (length es)
-  entry_clauses_lem es = entries_from 0 es ∙ same_pieces _ (clauses_at es) (λ k. ap (λ (n : ℕ). entry_clauses layout n (get_or es k blank)) (zero-add k)) (length es)
+  entry_clauses_lem es = entries_from 0 es ∙ same_pieces _ (clauses_at es) (λ k. ap (λ (n : ℕ). entry_clauses layout n (get_or es k blank)) (zero-add k))
+      (length es)
 
   pub entry_lines : (es : List Entry) → text_of (clauses_from layout 0 es) ≡ joined (λ i. text_of (clauses_at es i)) (length es)
   entry_lines es = ap text_of (entry_clauses_lem es) ∙ text_joined (clauses_at es) (length es)
 
 -- the clauses of the entry that a run holds at a number, by what is read there
-pub run_clauses : (layout : Layout) (run : List ℕ) (i : ℕ) (kind : Kind) (rules : Rules) → per_entry * i + 2 < length run → kind ≡ kind_in (get_or run (per_entry * i) 0) →
+pub run_clauses : (layout : Layout) (run : List ℕ) (i : ℕ) (kind : Kind) (rules : Rules) → per_entry * i + 2 < length run →
+    kind ≡ kind_in (get_or run (per_entry * i) 0) →
     rules ≡ rules_by layout i kind (get_or run (per_entry * i + 1) 0) (get_or run (per_entry * i + 2) 0) → spelled rules ≡ clauses_at layout (entries_in run) i
 run_clauses layout run i kind rules h p q =
     ap spelled (q ∙ ap (λ (k : Kind). rules_by layout i k (get_or run (per_entry * i + 1) 0) (get_or run (per_entry * i + 2) 0)) p)

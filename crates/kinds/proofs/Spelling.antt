@@ -120,7 +120,8 @@ below_letter (suc n) w h i l = go (eqb i n) refl (both_parts (eqb (letter_at (sh
 
 pub letter_at_lem : (kind : Kind) (i : ℕ) → i < length (word_of kind) → letter_at (shown_word (word_of kind)) i ≡ get_or (word_of kind) i 0
 unfolding word_of shown_word
-letter_at_lem kind i l = below_letter longest (word_of kind) (each_kind (λ kind. letters_below longest (word_of kind)) refl kind) i (omega (arith, word_short kind))
+letter_at_lem kind i l = below_letter longest (word_of kind) (each_kind (λ kind. letters_below longest (word_of kind)) refl kind)
+    i (omega (arith, word_short kind))
 
 -- what holds of the numbers below one, and of it, holds of the numbers up to it
 pub one_more : (f g : ℕ → ℕ) (i : ℕ) → ((j : ℕ) → j < i → f j ≡ g j) → f i ≡ g i → (j : ℕ) → j < i + 1 → f j ≡ g j

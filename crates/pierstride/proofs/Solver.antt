@@ -92,7 +92,8 @@ module _ (s : List ℕ) (c : Contents) (is : reading s ≡ answered c) (q : ℕ)
         let says : breaking c q m ≡ true = rw (inside, broken) in
         ap (λ (j : Judged). j.breaks) (judges m h) ∙ ap (λ (b : Bool). (judged_of (answered b)).breaks) says
 
-    -- "Every assignment that satisfies the clauses, cut to the first n variables, is a request within L5's entries that breaks the question": the judge says yes
+    -- "Every assignment that satisfies the clauses, cut to the first n variables, is a request within L5's entries that breaks the question": the judge says
+    -- yes
     pub solver_request : (A : ℕ → Bool) → satisfies A (negation_of c q) ≡ true → (breaks_answer s q (cut n A)).breaks ≡ 1
     solver_request A h = let b = satisfying_breaks s c is q there A h in judge_if (cut n A) b.0 b.1.0 b.1.1
 

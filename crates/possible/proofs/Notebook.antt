@@ -52,6 +52,7 @@ cases =
     record { brought = remaining (reading (0x11 ∷ 0x00 ∷ 0x11 ∷ 0x00 ∷ 0x34 ∷ 0x00 ∷ 0x01 ∷ [])) 2; stated = members (of_mask decisions 5) } ∷ []
 
 pub right : map (λ c. c.brought) cases ≡ map (λ c. c.stated) cases
-unfolding reading read_on after step_of judged placed permitted offending no_room decoded body_of kind_of bytes_of values value_at bit fact_set set_by choosing image_one
+unfolding reading read_on after step_of judged placed permitted offending no_room decoded body_of kind_of bytes_of values value_at bit fact_set set_by choosing
+    image_one
     image_two of_mask
 right = refl

@@ -20,7 +20,8 @@ use Rattle.questions.proofs.TruthSets.{question_within}
 pub truth_within_twice : (rows questions : List Entry) (known request j : ℕ) →
     Within (truth_set rows questions known request j) (truth_twice rows questions known request j)
 truth_within_twice rows questions known request j =
-    side_by_side Within (asks_set (possible rows known request)) (asks_twice (possible_twice rows known request)) (single true) (single true) questions (λ b i. i)
+    side_by_side Within (asks_set (possible rows known request)) (asks_twice (possible_twice rows known request)) (single true) (single true)
+    questions (λ b i. i)
     (λ i x p within. let e = get_or questions i blank in
     let row : (r : ℕ) → Within (possible rows known request r) (possible_twice rows known request r) = within_twice rows known request in
     question_within (as_question e.kind) (equal_numbers e) false _ _ _ _ _ _ _ _

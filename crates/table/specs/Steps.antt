@@ -15,7 +15,8 @@ use Rattle.table.specs.declared.steps.Step.{Step}
 use Rattle.table.specs.declared.steps.Step.TheVariants.{Took, Bad}
 use Rattle.table.specs.declared.steps.Entered.{Entered}
 use Rattle.table.specs.declared.steps.Entered.TheVariants.{In, Out}
-use Rattle.entries.specs.Refusals.{unlisted, cut_short, predicate_too_high, not_to_be_named, out_of_order, too_many_rows, too_many_questions, too_many_constraints}
+use Rattle.entries.specs.Refusals.{unlisted, cut_short, predicate_too_high, not_to_be_named, out_of_order, too_many_rows, too_many_questions}
+use Rattle.entries.specs.Refusals.{too_many_constraints}
 use Rattle.entries.specs.Refusals.{idle_supplier}
 use Rattle.entries.specs.Said.{Said, answered, refusing, refusal, unless}
 use Rattle.kinds.specs.Kinds.{kind_of, form_of, of_row}

@@ -45,16 +45,23 @@ stands_here c =
 
 returns : tie.Need-returns-in-Broken invariant-loop decreases-loop
 returns c =
+    let at_loop_i = c.before.before.before.before.before.before.before in
     let a = c.args in
-    looked_broken (constraints c.before.before.before.before.before.before.before) a.known a.facts c.loop-i.i (is_there c.before) (sym (stands_here c.before) ∙ c.in-Broken.is)
+    looked_broken (constraints at_loop_i) a.known a.facts c.loop-i.i (is_there c.before) (sym (stands_here c.before) ∙ c.in-Broken.is)
 
 loop-again : tie.Need-loop-i-preserved invariant-loop decreases-loop
 loop-again c =
+    let at_loop_i = c.before.before.before.before.before.before.before in
     let a = c.args in
-    let all = constraints c.before.before.before.before.before.before.before in
+    let all = constraints at_loop_i in
     let i = c.loop-i.i in (
       omega arith,
-      elim c.match-stands.branch [ in-Waiting w ↦ rw w.waits-is (looked_waiting all a.known a.facts i (is_there c.before) c.loop-i.invariant.1 (sym (stands_here c.before) ∙ w.in-Waiting.is)) | in-Kept w ↦ rw w.waits-is (looked_kept all a.known a.facts i (is_there c.before) c.loop-i.invariant.1 (sym (stands_here c.before) ∙ w.in-Kept.is)) ],
+      elim c.match-stands.branch [
+        | in-Waiting w ↦ rw w.waits-is (looked_waiting all a.known a.facts i (is_there c.before)
+            c.loop-i.invariant.1 (sym (stands_here c.before) ∙ w.in-Waiting.is))
+        | in-Kept w ↦
+            rw w.waits-is (looked_kept all a.known a.facts i (is_there c.before) c.loop-i.invariant.1 (sym (stands_here c.before) ∙ w.in-Kept.is))
+      ],
     )
 
 -- behind the last constraint, by whether one waits

@@ -30,19 +30,23 @@ long c =
 
 returns : tie.Need-returns-then-out-size
 returns c =
-    rw c.of.ensures (sends_short (answered (text c.before.before.before.before)) c.args.out.now (text c.before.before.before.before) refl
-    (omega (arith, long c.before.before.before, c.if-out-size.true)))
+    let after_header_size = c.before.before.before in
+    let after_measure_extent = after_header_size.before in
+    rw c.of.ensures (sends_short (answered (text after_measure_extent)) c.args.out.now (text after_measure_extent) refl
+    (omega (arith, long after_header_size, c.if-out-size.true)))
 
 returns_2 : tie.Need-returns
 unfolding file_text
 returns_2 c =
+    let after_header_size = c.before.before.before.before.before.before.before.before.before.before in
+    let after_measure_extent = after_header_size.before in
     let a = c.args in
-    let cs = clauses c.before.before.before.before.before.before.before.before.before.before.before in
+    let cs = clauses after_measure_extent in
     let first = rw c.measure-extent.ensures.0.0 at c.put_header-first.ensures in
     let put = put_then (header_text a.variables (length cs)) (text_of cs) first c.put_clauses.ensures in
-    let fits : length (text c.before.before.before.before.before.before.before.before.before.before.before) ≤ length a.out.now = omega (arith, long c.before.before.before.before.before.before.before.before.before.before, c.if-out-size.false) in
-    let sends = sends_all (answered (text c.before.before.before.before.before.before.before.before.before.before.before)) a.out.now (text c.before.before.before.before.before.before.before.before.before.before.before) refl fits in
-    (rw (put.behind ∙ zero-add (length (text c.before.before.before.before.before.before.before.before.before.before.before))) sends.0, put.holds ∙ sets_front (text c.before.before.before.before.before.before.before.before.before.before.before) a.out.now fits ∙ sends.1)
+    let fits : length (text after_measure_extent) ≤ length a.out.now = omega (arith, long after_header_size, c.if-out-size.false) in
+    let sends = sends_all (answered (text after_measure_extent)) a.out.now (text after_measure_extent) refl fits in
+    (rw (put.behind ∙ zero-add (length (text after_measure_extent))) sends.0, put.holds ∙ sets_front (text after_measure_extent) a.out.now fits ∙ sends.1)
 
 pub compose_spec : {M : Type 1} → statement M
 compose_spec =

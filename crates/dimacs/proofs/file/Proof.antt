@@ -61,49 +61,80 @@ cast-t20 : tie.Need-overflow_cast-layout-2
 cast-t20 c = record { fits = omega (arith, count_small (open_at c.before.before) Rows) }
 
 mul-constraints : tie.Need-overflow_mul-constraints
-mul-constraints c = record { fits = omega (arith, count_small (open_at c.before.before.before.before.before.before) Constraints) }
+mul-constraints c = record {
+  fits =
+      let in_read = c.before.before.before.before.before.before in
+      omega (arith, count_small (open_at in_read) Constraints);
+}
 
 array-share-prefix-constraints : tie.Need-slice_bounds-constraints-end
-array-share-prefix-constraints c = omega (arith, count_small (open_at c.before.before.before.before.before.before) Constraints)
+array-share-prefix-constraints c =
+    let in_read = c.before.before.before.before.before.before in
+    omega (arith, count_small (open_at in_read) Constraints)
 
 slice-aggregate-compose : tie.Need-slice_bounds-compose-end
 slice-aggregate-compose c =
-    sym (part_long (open_at c.before.before.before.before.before.before.before) Constraints c.flat-constraints.result c.flat-constraints.ensures)
+    let in_read = c.before.before.before.before.before.before.before in
+    sym (part_long (open_at in_read) Constraints c.flat-constraints.result c.flat-constraints.ensures)
 
 mul-rows : tie.Need-overflow_mul-rows
-mul-rows c = record { fits = omega (arith, count_small (open_at c.before.before.before.before.before.before.before) Rows) }
+mul-rows c = record {
+  fits =
+      let in_read = c.before.before.before.before.before.before.before in
+      omega (arith, count_small (open_at in_read) Rows);
+}
 
 array-share-prefix-rows : tie.Need-slice_bounds-rows-end
-array-share-prefix-rows c = omega (arith, count_small (open_at c.before.before.before.before.before.before.before) Rows)
+array-share-prefix-rows c =
+    let in_read = c.before.before.before.before.before.before.before in
+    omega (arith, count_small (open_at in_read) Rows)
 
 slice-aggregate-compose-2 : tie.Need-slice_bounds-compose-end-2
 slice-aggregate-compose-2 c =
-    sym (part_long (open_at c.before.before.before.before.before.before.before.before) Rows c.flat-rows.result c.flat-rows.ensures)
+    let in_read = c.before.before.before.before.before.before.before.before in
+    sym (part_long (open_at in_read) Rows c.flat-rows.result c.flat-rows.ensures)
 
 mul-questions : tie.Need-overflow_mul-questions
-mul-questions c = record { fits = omega (arith, count_small (open_at c.before.before.before.before.before.before.before.before) Questions) }
+mul-questions c = record {
+  fits =
+      let in_read = c.before.before.before.before.before.before.before.before in
+      omega (arith, count_small (open_at in_read) Questions);
+}
 
 array-share-prefix-questions : tie.Need-slice_bounds-questions-end
-array-share-prefix-questions c = omega (arith, count_small (open_at c.before.before.before.before.before.before.before.before) Questions)
+array-share-prefix-questions c =
+    let in_read = c.before.before.before.before.before.before.before.before in
+    omega (arith, count_small (open_at in_read) Questions)
 
 slice-aggregate-compose-3 : tie.Need-slice_bounds-compose-end-3
 slice-aggregate-compose-3 c =
-    sym (part_long (open_at c.before.before.before.before.before.before.before.before.before) Questions c.flat-questions.result c.flat-questions.ensures)
+    let in_read = c.before.before.before.before.before.before.before.before.before in
+    sym (part_long (open_at in_read) Questions c.flat-questions.result c.flat-questions.ensures)
 
 mul-compose : tie.Need-overflow_mul-used
-mul-compose c = record { fits = omega (arith, count_small (open_at c.before.before.before.before.before.before.before.before.before) Rows) }
+mul-compose c = record {
+  fits =
+      let in_read = c.before.before.before.before.before.before.before.before.before in
+      omega (arith, count_small (open_at in_read) Rows);
+}
 
 add-compose : tie.Need-overflow_add-n
-add-compose c = record { fits = omega (arith, few c.before.before.before.before.before.before.before.before.before, count_small (open_at c.before.before.before.before.before.before.before.before.before) Rows) }
+add-compose c = record {
+  fits =
+      let in_read = c.before.before.before.before.before.before.before.before.before in
+      omega (arith, few in_read, count_small (open_at in_read) Rows);
+}
 
 add-compose-2 : tie.Need-overflow_add-n-2
 add-compose-2 c =
-    let o = open_at c.before.before.before.before.before.before.before.before.before in
-    record { fits = omega (arith, few c.before.before.before.before.before.before.before.before.before, count_small o Rows, count_small o Questions) }
+    let in_read = c.before.before.before.before.before.before.before.before.before in
+    let o = open_at in_read in
+    record { fits = omega (arith, few in_read, count_small o Rows, count_small o Questions) }
 
 compose-requires : tie.Need-compose-requires
 compose-requires c κs =
-    let o = open_at c.before.before.before.before.before.before.before.before.before in (
+    let in_read = c.before.before.before.before.before.before.before.before.before in
+    let o = open_at in_read in (
       omega (arith, part_long o Constraints c.flat-constraints.result c.flat-constraints.ensures, count_small o Constraints),
       omega (arith, part_long o Rows c.flat-rows.result c.flat-rows.ensures, count_small o Rows),
       omega (arith, part_long o Questions c.flat-questions.result c.flat-questions.ensures, count_small o Questions),
@@ -127,18 +158,20 @@ says c =
 
 returns_3 : tie.Need-returns
 returns_3 c =
-    let o = open_at c.before.before.before.before.before.before.before.before.before.before.before.before in
-    let t = table_at c.before.before.before.before.before.before.before.before.before.before.before.before in
+    let else_asked_q = c.before.before.before.before.before.before.before.before.before.before in
+    let in_read = else_asked_q.before.before in
+    let o = open_at in_read in
+    let t = table_at in_read in
     let a = c.args in
     let layout : Layout = record { predicates = t.predicates; rows = t.tally.rows } in
-    let laid : layout ≡ layout_of o.contents = ap₂ (λ (n r : ℕ). record { predicates = n; rows = r }) (predicates_are c.before.before.before.before.before.before.before.before.before.before.before.before) (count_is o Rows) in
+    let laid : layout ≡ layout_of o.contents = ap₂ (λ (n r : ℕ). record { predicates = n; rows = r }) (predicates_are in_read) (count_is o Rows) in
     let many : t.predicates + 2 * t.tally.rows + t.tally.questions ≡ variables_of o.contents =
-    omega (arith, predicates_are c.before.before.before.before.before.before.before.before.before.before.before.before, count_is o Rows, count_is o Questions) in
+    omega (arith, predicates_are in_read, count_is o Rows, count_is o Questions) in
     let same = same_text o.contents layout (front t.tally.constraints c.flat-constraints.result) (front t.tally.rows c.flat-rows.result)
     (front t.tally.questions c.flat-questions.result) (t.predicates + 2 * t.tally.rows + t.tally.questions) a.question laid
     (part_entries o Constraints c.flat-constraints.result c.flat-constraints.ensures) (part_entries o Rows c.flat-rows.result c.flat-rows.ensures)
     (part_entries o Questions c.flat-questions.result c.flat-questions.ensures) many in
-    rw (says c.before.before.before.before.before.before.before.before.before.before ∙ ap answered (sym same)) c.compose.ensures
+    rw (says else_asked_q ∙ ap answered (sym same)) c.compose.ensures
 
 pub file_spec : {M : Type 1} → statement M
 file_spec =

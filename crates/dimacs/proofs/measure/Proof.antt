@@ -27,7 +27,8 @@ returns c =
     let x = c.run_extent-a.ensures in
     let y = c.run_extent-b.ensures in
     let z = c.run_extent-c.ensures in
-    let line = c.clause_size.ensures.0 ∙ ap (λ (l : List Literal). length (clause_text l)) (lists_one c.last_clause-last.result _ c.last_clause-last.ensures).lists in (
+    let line = c.clause_size.ensures.0 ∙ ap (λ (l : List Literal). length (clause_text l))
+    (lists_one c.last_clause-last.result _ c.last_clause-last.ensures).lists in (
       (omega (arith, x.0.0, y.0.0, z.0.0, count_over xs ys zs l), omega (arith, x.0.1, y.0.1, z.0.1, line, long_over xs ys zs l)),
       omega (arith, x.2, y.2, z.2, c.clause_size.ensures.1),
     )

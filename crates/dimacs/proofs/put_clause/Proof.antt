@@ -29,7 +29,13 @@ returns c =
 
 put-literal-requires-2 : tie.Need-put_literal-two-requires
 put-literal-requires-2 c κs =
-    omega (arith, c.requires.2, c.put_literal-one.ensures.behind, c.put_literal-one.auto.out, second_within c.args.clause c.requires.0 c.requires.1 c.if-clause-eq1.false)
+    omega (
+      arith,
+      c.requires.2,
+      c.put_literal-one.ensures.behind,
+      c.put_literal-one.auto.out,
+      second_within c.args.clause c.requires.0 c.requires.1 c.if-clause-eq1.false,
+    )
 
 put-end-requires-2 : tie.Need-put_end-requires-then-clause-eq2
 put-end-requires-2 c κs =
@@ -63,6 +69,7 @@ put-literal-requires-3 c κs =
 
 put-end-requires-3 : tie.Need-put_end-requires-2
 put-end-requires-3 c κs =
+    let else_clause_eq2 = c.before.before.before.before.before in
     omega (
       arith,
       c.requires.2,
@@ -72,15 +79,16 @@ put-end-requires-3 c κs =
       c.put_literal-two.auto.out,
       c.put_literal-three.ensures.behind,
       c.put_literal-three.auto.out,
-      long_three c.args.clause (three c.before.before.before.before.before),
+      long_three c.args.clause (three else_clause_eq2),
     )
 
 returns_3 : tie.Need-returns
 returns_3 c =
+    let else_clause_eq2 = c.before.before.before.before.before.before.before.before in
     let clause = c.args.clause in
     let second = literal_text clause.b in
     let third = literal_text clause.c in
-    rw (line_three clause (three c.before.before.before.before.before.before.before.before)) (put_then (literal_text clause.a) (second ++ (third ++ ending)) c.put_literal-one.ensures
+    rw (line_three clause (three else_clause_eq2)) (put_then (literal_text clause.a) (second ++ (third ++ ending)) c.put_literal-one.ensures
     (put_then second (third ++ ending) c.put_literal-two.ensures (put_then third ending c.put_literal-three.ensures c.put_end-2.ensures)))
 
 pub put_clause_spec : {M : Type 1} → statement M

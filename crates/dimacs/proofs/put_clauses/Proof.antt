@@ -34,37 +34,43 @@ all c =
 
 put-run-requires : tie.Need-put_run-first-requires
 put-run-requires c κs =
+    let start = c.before.before.before.before.before in
     let pre = c.requires in
-    (pre.0, room_first _ _ (xs c.before.before.before.before.before) (ys c.before.before.before.before.before ++ (zs c.before.before.before.before.before ++ line c.before.before.before.before.before)) (rw (all c.before.before.before.before.before) at pre.3))
+    (pre.0, room_first _ _ (xs start) (ys start ++ (zs start ++ line start)) (rw (all start) at pre.3))
 
 put-run-requires-2 : tie.Need-put_run-second-requires
 put-run-requires-2 c κs =
+    let start = c.before.before.before.before.before.before.before.before.before in
     let pre = c.requires in
-    let rest = zs c.before.before.before.before.before.before.before.before.before ++ line c.before.before.before.before.before.before.before.before.before in
-    let left = room_then (xs c.before.before.before.before.before.before.before.before.before) (ys c.before.before.before.before.before.before.before.before.before ++ rest) c.put_run-first.ensures (rw (all c.before.before.before.before.before.before.before.before.before) at pre.3) in
-    (pre.1, room_first _ _ (ys c.before.before.before.before.before.before.before.before.before) rest left)
+    let rest = zs start ++ line start in
+    let left = room_then (xs start) (ys start ++ rest) c.put_run-first.ensures (rw (all start) at pre.3) in
+    (pre.1, room_first _ _ (ys start) rest left)
 
 put-run-requires-3 : tie.Need-put_run-third-requires
 put-run-requires-3 c κs =
+    let start = c.before.before.before.before.before.before.before.before.before.before.before.before.before in
     let pre = c.requires in
-    let rest = zs c.before.before.before.before.before.before.before.before.before.before.before.before.before ++ line c.before.before.before.before.before.before.before.before.before.before.before.before.before in
-    let left = room_then (xs c.before.before.before.before.before.before.before.before.before.before.before.before.before) (ys c.before.before.before.before.before.before.before.before.before.before.before.before.before ++ rest) c.put_run-first.ensures (rw (all c.before.before.before.before.before.before.before.before.before.before.before.before.before) at pre.3) in
-    (pre.2, room_first _ _ (zs c.before.before.before.before.before.before.before.before.before.before.before.before.before) (line c.before.before.before.before.before.before.before.before.before.before.before.before.before) (room_then (ys c.before.before.before.before.before.before.before.before.before.before.before.before.before) rest c.put_run-second.ensures left))
+    let rest = zs start ++ line start in
+    let left = room_then (xs start) (ys start ++ rest) c.put_run-first.ensures (rw (all start) at pre.3) in
+    (pre.2, room_first _ _ (zs start) (line start) (room_then (ys start) rest c.put_run-second.ensures left))
 
 put-clause-requires : tie.Need-put_clause-requires
 put-clause-requires c κs =
-    let rest = zs c.before.before.before.before.before.before.before.before.before.before.before.before.before.before.before.before.before.before ++ line c.before.before.before.before.before.before.before.before.before.before.before.before.before.before.before.before.before.before in
-    let left = room_then (xs c.before.before.before.before.before.before.before.before.before.before.before.before.before.before.before.before.before.before) (ys c.before.before.before.before.before.before.before.before.before.before.before.before.before.before.before.before.before.before ++ rest) c.put_run-first.ensures (rw (all c.before.before.before.before.before.before.before.before.before.before.before.before.before.before.before.before.before.before) at c.requires.3) in
-    let then = room_then (ys c.before.before.before.before.before.before.before.before.before.before.before.before.before.before.before.before.before.before) rest c.put_run-second.ensures left in
+    let start = c.before.before.before.before.before.before.before.before.before.before.before.before.before.before.before.before.before.before in
+    let rest = zs start ++ line start in
+    let left = room_then (xs start) (ys start ++ rest) c.put_run-first.ensures (rw (all start) at c.requires.3) in
+    let then = room_then (ys start) rest c.put_run-second.ensures left in
     let clause = lists_one c.last_clause-last.result _ c.last_clause-last.ensures in
-    (clause.some, clause.few, rw clause.lists (room_then (zs c.before.before.before.before.before.before.before.before.before.before.before.before.before.before.before.before.before.before) (line c.before.before.before.before.before.before.before.before.before.before.before.before.before.before.before.before.before.before) c.put_run-third.ensures then))
+    (clause.some, clause.few, rw clause.lists (room_then (zs start) (line start) c.put_run-third.ensures then))
 
 returns : tie.Need-returns
 returns c =
-    let rest = zs c.before.before.before.before.before.before.before.before.before.before.before.before.before.before.before.before.before.before.before.before.before ++ line c.before.before.before.before.before.before.before.before.before.before.before.before.before.before.before.before.before.before.before.before.before in
+    let start =
+    c.before.before.before.before.before.before.before.before.before.before.before.before.before.before.before.before.before.before.before.before.before in
+    let rest = zs start ++ line start in
     let put = rw (lists_one c.last_clause-last.result _ c.last_clause-last.ensures).lists at c.put_clause.ensures in
-    rw (all c.before.before.before.before.before.before.before.before.before.before.before.before.before.before.before.before.before.before.before.before.before) (put_then (xs c.before.before.before.before.before.before.before.before.before.before.before.before.before.before.before.before.before.before.before.before.before) (ys c.before.before.before.before.before.before.before.before.before.before.before.before.before.before.before.before.before.before.before.before.before ++ rest) c.put_run-first.ensures
-    (put_then (ys c.before.before.before.before.before.before.before.before.before.before.before.before.before.before.before.before.before.before.before.before.before) rest c.put_run-second.ensures (put_then (zs c.before.before.before.before.before.before.before.before.before.before.before.before.before.before.before.before.before.before.before.before.before) (line c.before.before.before.before.before.before.before.before.before.before.before.before.before.before.before.before.before.before.before.before.before) c.put_run-third.ensures put)))
+    rw (all start) (put_then (xs start) (ys start ++ rest) c.put_run-first.ensures
+    (put_then (ys start) rest c.put_run-second.ensures (put_then (zs start) (line start) c.put_run-third.ensures put)))
 
 pub put_clauses_spec : {M : Type 1} → statement M
 put_clauses_spec =

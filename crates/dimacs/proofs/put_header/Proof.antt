@@ -27,7 +27,8 @@ returns c =
     let rest = room_then (space ∷ []) last r then in
     let s = put_fits clauses c.put_decimal-fourth.ensures (room_first _ _ clauses (line_feed ∷ []) rest) in
     let t = put_fits (line_feed ∷ []) c.put_byte.ensures (room_then clauses (line_feed ∷ []) s rest) in
-    put_then opening (variables ++ (space ∷ last)) p (put_then variables (space ∷ last) q (put_then (space ∷ []) last r (put_then clauses (line_feed ∷ []) s t)))
+    put_then opening (variables ++ (space ∷ last)) p (put_then variables (space ∷ last)
+    q (put_then (space ∷ []) last r (put_then clauses (line_feed ∷ []) s t)))
 
 pub put_header_spec : {M : Type 1} → statement M
 put_header_spec =

@@ -52,29 +52,34 @@ add-rules-of-2 : tie.Need-overflow_add-from-in-loop-i invariant-loop decreases-l
 add-rules-of-2 c = record { fits = omega (arith, inside c.before.before.before, c.requires.0) }
 
 shared-slice-read-rules-of-2 : tie.Need-bounds-run-from-in-loop-i-2 invariant-loop decreases-loop
-shared-slice-read-rules-of-2 c = omega (arith, inside c.before.before.before.before)
+shared-slice-read-rules-of-2 c =
+    let in_loop_i = c.before.before.before.before in
+    omega (arith, inside in_loop_i)
 
 -- the clauses that the rules spell are those of the entry at hand
 clauses_are : (c : tie.After-rules_of-rules invariant-loop decreases-loop) → let a = c.args in
     spelled c.rules_of-rules.result ≡ clauses_at a.layout (entries_in a.run.now) c.loop-i.i
 clauses_are c =
+    let in_loop_i = c.before.before.before.before.before in
     let a = c.args in
-    run_clauses a.layout a.run.now c.loop-i.i c.kind_in-kind.result c.rules_of-rules.result (inside c.before.before.before.before.before)
+    run_clauses a.layout a.run.now c.loop-i.i c.kind_in-kind.result c.rules_of-rules.result (inside in_loop_i)
     c.kind_in-kind.ensures c.rules_of-rules.ensures
 
 put-rules-requires : tie.Need-put_rules-next-requires invariant-loop decreases-loop
 put-rules-requires c κs =
+    let in_loop_i = c.before.before.before.before.before.before in
     let a = c.args in
     let es = entries_in a.run.now in
-    let here : c.loop-i.i < length es = omega (arith, inside c.before.before.before.before.before.before, entries_count a.run.now) in
+    let here : c.loop-i.i < length es = omega (arith, inside in_loop_i, entries_count a.run.now) in
     rw (clauses_are c.before)
     (room_next (lines a.layout a.run.now) c.loop-i.i (length es) here c.loop-i.invariant.1 (rw (entry_lines a.layout es) at c.requires.1))
 
 loop-again : tie.Need-loop-i-preserved invariant-loop decreases-loop
 loop-again c =
+    let after_rules_of_rules = c.before.before.before.before in
     let a = c.args in (
       omega (arith, c.loop-i-test.true),
-      put_next (lines a.layout a.run.now) c.loop-i.invariant.1 (rw (clauses_are c.before.before.before.before) at c.put_rules-next.ensures),
+      put_next (lines a.layout a.run.now) c.loop-i.invariant.1 (rw (clauses_are after_rules_of_rules) at c.put_rules-next.ensures),
     )
 
 same_length : tie.Need-shape_of-out invariant-loop decreases-loop

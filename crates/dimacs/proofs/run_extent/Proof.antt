@@ -39,8 +39,13 @@ few c = omega (arith, inside c.before.before, c.requires)
 
 loop-holds : tie.Need-loop-i-init invariant-loop decreases-loop
 loop-holds c =
-    let a = c.args in
-    (omega arith, sym (ap length (joined_none (clauses a.layout a.run.now))), sym (ap length (joined_none (lines a.layout a.run.now))), omega arith, omega arith)
+    let a = c.args in (
+      omega arith,
+      sym (ap length (joined_none (clauses a.layout a.run.now))),
+      sym (ap length (joined_none (lines a.layout a.run.now))),
+      omega arith,
+      omega arith,
+    )
 
 mul-from : tie.Need-overflow_mul-from invariant-loop decreases-loop
 mul-from c = record { fits = omega (arith, inside c, c.requires) }
@@ -61,23 +66,28 @@ add-rules-of-2 : tie.Need-overflow_add-from-in-loop-i invariant-loop decreases-l
 add-rules-of-2 c = record { fits = omega (arith, inside c.before.before.before, c.requires) }
 
 shared-slice-read-rules-of-2 : tie.Need-bounds-run-from-in-loop-i-2 invariant-loop decreases-loop
-shared-slice-read-rules-of-2 c = omega (arith, inside c.before.before.before.before)
+shared-slice-read-rules-of-2 c =
+    let in_loop_i = c.before.before.before.before in
+    omega (arith, inside in_loop_i)
 
 -- what is measured is the entry at hand
 measured : (c : tie.After-rules_extent-extent invariant-loop decreases-loop) → let a = c.args in
     spelled c.rules_of-rules.result ≡ clauses a.layout a.run.now c.loop-i.i
 measured c =
+    let in_loop_i = c.before.before.before.before.before.before in
     let a = c.args in
-    run_clauses a.layout a.run.now c.loop-i.i c.kind_in-kind.result c.rules_of-rules.result (inside c.before.before.before.before.before.before)
+    run_clauses a.layout a.run.now c.loop-i.i c.kind_in-kind.result c.rules_of-rules.result (inside in_loop_i)
     c.kind_in-kind.ensures c.rules_of-rules.ensures
 
 add-clauses : tie.Need-overflow_add-clauses invariant-loop decreases-loop
 add-clauses c =
-    record { fits = omega (arith, c.loop-i.invariant.3, few c.before.before.before.before.before, c.rules_extent-extent.ensures.1) }
+    let after_kind_in_kind = c.before.before.before.before.before in
+    record { fits = omega (arith, c.loop-i.invariant.3, few after_kind_in_kind, c.rules_extent-extent.ensures.1) }
 
 add-bytes : tie.Need-overflow_add-bytes invariant-loop decreases-loop
 add-bytes c =
-    record { fits = omega (arith, c.loop-i.invariant.4, few c.before.before.before.before.before.before, c.rules_extent-extent.ensures.2) }
+    let after_kind_in_kind = c.before.before.before.before.before.before in
+    record { fits = omega (arith, c.loop-i.invariant.4, few after_kind_in_kind, c.rules_extent-extent.ensures.2) }
 
 loop-again : tie.Need-loop-i-preserved invariant-loop decreases-loop
 loop-again c =

@@ -23,10 +23,15 @@ slice-write-out-2 c =
 
 slice-write-out-3 : tie.Need-bounds-out-2
 slice-write-out-3 c =
-    let long = c.before.before in
+    let else_out_size = c.before.before in
+    let long = else_out_size in
     let n = ap (λ (f : Form). f.numbers) long.form_of-form.ensures in
     let size = long.body_size-size.ensures.0 in
-    elim c.if-numbers-gt0.branch [ then-numbers-gt0 w ↦ omega (arith, n, size, simp length-set at (ap length w.out-is)) | else-numbers-gt0 w ↦ omega (arith, n, size, simp length-set at (ap length w.out-is)) ]
+    elim c.if-numbers-gt0.branch [
+      | then-numbers-gt0 w ↦ omega (arith, n, size, simp length-set at (ap length w.out-is))
+      | else-numbers-gt0 w ↦
+          omega (arith, n, size, simp length-set at (ap length w.out-is))
+    ]
 
 same_length : tie.Need-shape_of-out
 same_length c =

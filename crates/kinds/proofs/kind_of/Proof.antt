@@ -29,7 +29,8 @@ unfolding kind_of
 returns_5 c = let q : c.args.byte ≡ 0x11 = omega arith in rw q
 
 returns-6 : tie.Need-returns-in_default-low
-returns-6 c = sym (gap 0x12 0x20 c.args.byte refl (omega (arith, c.in_default-low.in_default-low-own.rest.0.1, c.in_default-low.in_default-low-own.rest.1)) (omega arith))
+returns-6 c = sym (gap 0x12 0x20 c.args.byte refl (omega (arith, c.in_default-low.in_default-low-own.rest.0.1, c.in_default-low.in_default-low-own.rest.1))
+    (omega arith))
 
 returns-7 : tie.Need-returns-else-low-lt4-2
 returns-7 c = sym (gap 0x24 0x30 c.args.byte refl (omega arith) (omega arith))
@@ -55,7 +56,8 @@ returns_12 c = let q : c.args.byte ≡ 0x43 = omega arith in rw q
 
 returns-13 : tie.Need-returns-in_default-low-2
 returns-13 c =
-    let l = past_three (c.args.byte % 16) c.in_default-low-2.in_default-low-2-own.rest.0.0.0.1 c.in_default-low-2.in_default-low-2-own.rest.0.0.1 c.in_default-low-2.in_default-low-2-own.rest.0.1
+    let l = past_three (c.args.byte % 16) c.in_default-low-2.in_default-low-2-own.rest.0.0.0.1 c.in_default-low-2.in_default-low-2-own.rest.0.0.1
+    c.in_default-low-2.in_default-low-2-own.rest.0.1
     c.in_default-low-2.in_default-low-2-own.rest.1 in
     sym (gap 0x44 0x50 c.args.byte refl (omega (arith, c.in-4.is, l)) (omega (arith, c.in-4.is)))
 

@@ -19,7 +19,12 @@ returns_3 c = rw c.in-10.is
 
 returns_4 : tie.Need-returns-in_default
 unfolding kind_of
-returns_4 c = let q : c.args.low ≡ 11 = omega (arith, c.in_default.in_default-own.rest.0.0.1, c.in_default.in_default-own.rest.0.1, c.in_default.in_default-own.rest.1) in rw q
+returns_4 c = let q : c.args.low ≡ 11 = omega (
+  arith,
+  c.in_default.in_default-own.rest.0.0.1,
+  c.in_default.in_default-own.rest.0.1,
+  c.in_default.in_default-own.rest.1,
+) in rw q
 
 pub override_of_spec : {M : Type 1} → statement M
 override_of_spec = tie.close (tie.spec returns returns_2 returns_3 returns_4)

@@ -33,7 +33,8 @@ five n a b c = omega arith
 returns-6 : tie.Need-returns-in_default
 unfolding kind_of
 returns-6 c =
-    let l = past_three c.args.low c.in_default.in_default-own.rest.0.0.0.0.1 c.in_default.in_default-own.rest.0.0.0.1 c.in_default.in_default-own.rest.0.0.1 c.in_default.in_default-own.rest.0.1 in
+    let l = past_three c.args.low c.in_default.in_default-own.rest.0.0.0.0.1 c.in_default.in_default-own.rest.0.0.0.1 c.in_default.in_default-own.rest.0.0.1
+    c.in_default.in_default-own.rest.0.1 in
     let q : c.args.low ≡ 5 = five c.args.low l c.requires c.in_default.in_default-own.rest.1 in rw q
 
 pub two_of_spec : {M : Type 1} → statement M

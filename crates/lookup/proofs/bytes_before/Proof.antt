@@ -26,8 +26,9 @@ loop-holds c = (omega arith, refl, refl, omega arith)
 
 loop-again : tie.Need-loop-i-preserved invariant-loop decreases-loop
 loop-again c =
+    let at_loop_i = c.before.before.before.before.before in
     let marked-at = c.change_size in
-    let head = c.before.before.before.before.before in
+    let head = at_loop_i in
     let start = head.before in
     let t = start.args.t in
     let i = head.loop-i.i in

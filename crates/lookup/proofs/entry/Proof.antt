@@ -13,7 +13,9 @@ use Rattle.lookup.proofs.entry.Tie as tie
 
 -- at a row that was found: where the function begins, the row's part, and what is known of it
 abbrev start-at : tie.After-struct_known-1 → tie.Start
-start-at c = c.before.before.before.before
+start-at c =
+    let start = c.before.before.before.before in
+    start
 
 abbrev part-at : tie.After-struct_known-1 → Part
 part-at c = c.in-At.part

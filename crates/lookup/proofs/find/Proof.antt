@@ -50,14 +50,18 @@ returns_2 c =
     rw (o.is, place_missing o.contents (row_at told) (rw (used told) at c.if-t-at.true), c.of.ensures)
 
 element-copy-out-e : tie.Need-bounds-t-at
-element-copy-out-e c = omega (arith, rw (used c.before.before) at c.if-t-at.false, (open_at c.before.before).whole.rows_fit)
+element-copy-out-e c =
+    let in_read = c.before.before in
+    omega (arith, rw (used in_read) at c.if-t-at.false, (open_at in_read).whole.rows_fit)
 
 add-size : tie.Need-overflow_add-size
 add-size c = record { fits = omega (arith, c.body_size-size.ensures.1) }
 
 -- where the row is there and the size of a constraint is known
 abbrev there-at : tie.After-body_size-size → tie.In-Read
-there-at c = c.before.before.before.before
+there-at c =
+    let in_read = c.before.before.before.before in
+    in_read
 
 fewer : (c : tie.After-body_size-size) → row_at (there-at c) < length (open_at (there-at c)).contents.rows
 fewer c = rw (used (there-at c)) at c.if-t-at.false

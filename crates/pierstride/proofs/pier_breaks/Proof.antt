@@ -34,17 +34,21 @@ mask-from-requires c κs = few c.before
 
 returns_2 : tie.Need-returns-then-why-ne0
 returns_2 c =
+    let in_read = c.before.before.before.before.before.before in
     let start = c.args in
     c.no_judgement-then-why-ne0.ensures ∙ ap (λ (why : Refusal). judged_of (refusing why)) c.of.ensures
-    ∙ breaks_refuses (open_at c.before.before.before.before.before.before) start.question start.request c.asked_wrongly-why.result c.mask_from.result c.mask_from.ensures c.asked_wrongly-why.ensures
+    ∙ breaks_refuses (open_at in_read) start.question start.request c.asked_wrongly-why.result c.mask_from.result c.mask_from.ensures
+    c.asked_wrongly-why.ensures
     c.if-why-ne0.true
 
 -- what the judge says is what the walk found
 judged : (c : tie.After-breaks-yes) → let start = c.args in
     judged_of (answered c.breaks-yes.result) ≡ breaks_answer start.table.now start.question start.request
 judged c =
+    let in_read = c.before.before.before.before.before in
     let start = c.args in
-    breaks_answers (open_at c.before.before.before.before.before) start.question start.request c.asked_wrongly-why.result c.mask_from.result c.mask_from.ensures c.asked_wrongly-why.ensures c.if-why-ne0.false
+    breaks_answers (open_at in_read) start.question start.request c.asked_wrongly-why.result c.mask_from.result c.mask_from.ensures c.asked_wrongly-why.ensures
+    c.if-why-ne0.false
     c.breaks-yes.result c.breaks-yes.ensures
 
 returns_3 : tie.Need-returns-then-yes

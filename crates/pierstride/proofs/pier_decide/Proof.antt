@@ -21,15 +21,19 @@ returns c =
 
 returns_2 : tie.Need-returns-then-why-ne0
 returns_2 c =
+    let in_read = c.before.before.before.before.before.before.before in
     let start = c.args in
     c.no_decision-then-why-ne0.ensures ∙ ap (λ (why : Refusal). decided_of (refusing why)) c.of.ensures
-    ∙ decide_refuses (open_at c.before.before.before.before.before.before.before) start.row start.request c.asked_wrongly-why.result c.mask_beyond.result c.mask_beyond.ensures c.asked_wrongly-why.ensures c.if-why-ne0.true
+    ∙ decide_refuses (open_at in_read) start.row start.request c.asked_wrongly-why.result c.mask_beyond.result c.mask_beyond.ensures c.asked_wrongly-why.ensures
+    c.if-why-ne0.true
 
 returns_3 : tie.Need-returns
 returns_3 c =
+    let in_read = c.before.before.before.before.before.before.before in
     let start = c.args in
     rw c.code_of.ensures
-    (decide_answers (open_at c.before.before.before.before.before.before.before) start.row start.request c.asked_wrongly-why.result c.mask_beyond.result c.mask_beyond.ensures c.asked_wrongly-why.ensures c.if-why-ne0.false
+    (decide_answers (open_at in_read) start.row start.request c.asked_wrongly-why.result c.mask_beyond.result c.mask_beyond.ensures c.asked_wrongly-why.ensures
+    c.if-why-ne0.false
     c.decide-v.result c.decide-v.ensures)
 
 pub pier_decide_spec : {M : Type 1} → statement M

@@ -21,15 +21,19 @@ returns c =
 
 returns_2 : tie.Need-returns-then-why-ne0
 returns_2 c =
+    let in_read = c.before.before.before.before.before.before.before in
     let start = c.args in
     c.no_set-then-why-ne0.ensures ∙ ap (λ (why : Refusal). remaining_of (refusing why)) c.of.ensures
-    ∙ possible_refuses (open_at c.before.before.before.before.before.before.before) start.row start.known start.request c.asked_wrongly-why.result c.masks_bad.result c.masks_bad.ensures c.asked_wrongly-why.ensures
+    ∙ possible_refuses (open_at in_read) start.row start.known start.request c.asked_wrongly-why.result c.masks_bad.result c.masks_bad.ensures
+    c.asked_wrongly-why.ensures
     c.if-why-ne0.true
 
 returns_3 : tie.Need-returns
 returns_3 c =
+    let in_read = c.before.before.before.before.before.before in
     let start = c.args in
-    possible_answers (open_at c.before.before.before.before.before.before) start.row start.known start.request c.asked_wrongly-why.result c.masks_bad.result c.masks_bad.ensures c.asked_wrongly-why.ensures
+    possible_answers (open_at in_read) start.row start.known start.request c.asked_wrongly-why.result c.masks_bad.result c.masks_bad.ensures
+    c.asked_wrongly-why.ensures
     c.if-why-ne0.false
     c.possible-set.result c.possible-set.ensures
 

@@ -24,7 +24,9 @@ cast-predicates : tie.Need-overflow_cast-predicates
 cast-predicates c = let o = open_at c.before.before.before.before in record { fits = omega (arith, predicates_is o, (limits _ o.contents o.is).4) }
 
 returns_2 : tie.Need-returns
-returns_2 c = counts_answer (open_at c.before.before.before.before)
+returns_2 c =
+    let in_read = c.before.before.before.before in
+    counts_answer (open_at in_read)
 
 pub pier_read_spec : {M : Type 1} → statement M
 pier_read_spec =

@@ -21,15 +21,17 @@ returns c =
 
 returns_2 : tie.Need-returns-then-why-ne0
 returns_2 c =
+    let in_read = c.before.before.before.before.before.before in
     let start = c.args in
     c.no_verdict-then-why-ne0.ensures ∙ ap (λ (why : Refusal). verdict_of (refusing why)) c.of.ensures
-    ∙ verdict_refuses (open_at c.before.before.before.before.before.before) start.question start.budget c.asked_wrongly-why.result c.asked_wrongly-why.ensures c.if-why-ne0.true
+    ∙ verdict_refuses (open_at in_read) start.question start.budget c.asked_wrongly-why.result c.asked_wrongly-why.ensures c.if-why-ne0.true
 
 returns_3 : tie.Need-returns
 returns_3 c =
+    let in_read = c.before.before.before.before.before.before in
     let start = c.args in
     c.replied.ensures
-    ∙ verdict_answers (open_at c.before.before.before.before.before.before) start.question start.budget c.asked_wrongly-why.result c.asked_wrongly-why.ensures c.if-why-ne0.false c.verdict.result
+    ∙ verdict_answers (open_at in_read) start.question start.budget c.asked_wrongly-why.result c.asked_wrongly-why.ensures c.if-why-ne0.false c.verdict.result
     c.verdict.ensures
 
 pub pier_verdict_spec : {M : Type 1} → statement M

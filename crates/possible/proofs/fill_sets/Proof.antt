@@ -51,17 +51,20 @@ slice-aggregate-done c =
     sym (length-take-le c.loop-i.i c.loop-i.sets (omega (arith, (inside c.before.before.before).1)))
 
 slice-write-sets : tie.Need-bounds-sets-i invariant-loop decreases-loop
-slice-write-sets c = (inside c.before.before.before.before.before.before).1
+slice-write-sets c =
+    let after_kind_in = c.before.before.before.before.before.before in
+    (inside after_kind_in).1
 
 loop-again : tie.Need-loop-i-preserved invariant-loop decreases-loop
 unfolding mask
 loop-again c =
+    let after_kind_in = c.before.before.before.before.before.before in
     let a = c.args in
     let f = set_of a.known a.request in
     let turn = set_turn decisions f (single U) a.rows.now c.loop-i.i a.sets.now c.loop-i.sets c.loop-i.invariant.2 in (
       omega arith,
       length-set c.loop-i.sets c.loop-i.i c.set_by-v.result ∙ c.loop-i.invariant.1,
-      turn c.mask_at-s.result c.mask_at-t.result c.set_by-v.result (inside c.before.before.before.before.before.before).0 (omega (arith, (inside c.before.before.before.before.before.before).1, c.loop-i.invariant.1))
+      turn c.mask_at-s.result c.mask_at-t.result c.set_by-v.result (inside after_kind_in).0 (omega (arith, (inside after_kind_in).1, c.loop-i.invariant.1))
           c.mask_at-s.ensures c.mask_at-t.ensures (rw (c.as_row-kind.ensures, c.kind_in.ensures) at c.set_by-v.ensures),
     )
 

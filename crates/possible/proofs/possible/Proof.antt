@@ -31,7 +31,8 @@ slice-aggregate-fill-sets c =
 
 returns_2 : tie.Need-returns
 returns_2 c =
-    let rows = c.before.before.before.before in
+    let after_flat_rows = c.before.before.before.before in
+    let rows = after_flat_rows in
     let a = rows.args in
     let there = rows.if-row-ge-ROWS.false in
     row_set a.t.rows a.known a.request a.row (per_entry * row_limit) _ _ (replicate row_limit 0) (run_is rows) (omega (arith, there))

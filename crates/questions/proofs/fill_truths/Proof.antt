@@ -53,7 +53,9 @@ slice-aggregate-done c =
     sym (length-take-le c.loop-i.i c.loop-i.masks (omega (arith, (inside c.before.before.before).1)))
 
 slice-write-masks : tie.Need-bounds-masks-i invariant-loop decreases-loop
-slice-write-masks c = (inside c.before.before.before.before.before.before.before.before).1
+slice-write-masks c =
+    let after_kind_in = c.before.before.before.before.before.before.before.before in
+    (inside after_kind_in).1
 
 -- a question's set goes by the masks of the rows that it names
 same_sets : (k : QuestionKind) (equal : Bool) (s t m n : ℕ) (x y : Set truths) → s ≡ m → t ≡ n →
@@ -64,12 +66,14 @@ same_sets k equal s t m n x y p q = rw (p, q)
 loop-again : tie.Need-loop-i-preserved invariant-loop decreases-loop
 unfolding mask
 loop-again c =
+    let after_kind_in = c.before.before.before.before.before.before.before.before in
     let args = c.args in
     let f = asks_set (set_at args.sets.now) in
     let turn = set_turn truths f (single true) args.questions.now c.loop-i.i args.masks.now c.loop-i.masks c.loop-i.invariant.2 in (
       omega arith,
       length-set c.loop-i.masks c.loop-i.i c.truth_set_by-v.result ∙ c.loop-i.invariant.1,
-      turn c.mask_at-x.result c.mask_at-y.result c.truth_set_by-v.result (inside c.before.before.before.before.before.before.before.before).0 (omega (arith, (inside c.before.before.before.before.before.before.before.before).1, c.loop-i.invariant.1))
+      turn c.mask_at-x.result c.mask_at-y.result c.truth_set_by-v.result (inside after_kind_in).0
+          (omega (arith, (inside after_kind_in).1, c.loop-i.invariant.1))
           c.mask_at-x.ensures c.mask_at-y.ensures
           (rw (c.as_question-kind.ensures, c.kind_in.ensures) at c.truth_set_by-v.ensures
           ∙ same_sets _ _ _ _ _ _ _ _ c.mask_at-s.ensures c.mask_at-t.ensures),

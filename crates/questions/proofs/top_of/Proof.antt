@@ -43,11 +43,12 @@ shared-slice-read-b c = omega (arith, (inside c.before.before.before).0)
 
 loop-again : tie.Need-loop-i-preserved invariant-loop decreases-loop
 loop-again c =
+    let after_kind_in = c.before.before.before.before.before.before in
     let run = c.args.questions.now in
     let v = rw (c.index.ensures.0, c.index-in-loop-i.ensures.0, c.as_question-kind.ensures, c.kind_in.ensures) at c.top_by-v.ensures in (
       omega arith,
-      turn top_of 0 (entries_in run) number_limit c.loop-i.i c.loop-i.tops c.top_by-v.result (inside c.before.before.before.before.before.before).1 c.loop-i.invariant.1
-          (v ∙ rw (held_at run c.loop-i.i (inside c.before.before.before.before.before.before).0)),
+      turn top_of 0 (entries_in run) number_limit c.loop-i.i c.loop-i.tops c.top_by-v.result (inside after_kind_in).1 c.loop-i.invariant.1
+          (v ∙ rw (held_at run c.loop-i.i (inside after_kind_in).0)),
     )
 
 -- behind the loop every question of the run has its number

@@ -77,7 +77,12 @@ loop-again c =
     let l = in_room join.before in
     let byte = ap (λ (f : Form). f.byte) c.form_of-form.ensures in
     let e : join.match-part.e ≡ get_or (entries_of start.args.part start.args.t) i blank =
-    elim join.match-part.branch [ in-Constraints w ↦ rw w.in-Constraints.is w.e-is | in-Rows w ↦ rw w.in-Rows.is w.e-is | in-Questions w ↦ rw w.in-Questions.is w.e-is ] in (
+    elim join.match-part.branch [
+      | in-Constraints w ↦ rw w.in-Constraints.is w.e-is
+      | in-Rows w ↦ rw w.in-Rows.is w.e-is
+      | in-Questions w ↦
+          rw w.in-Questions.is w.e-is
+    ] in (
       omega arith,
       rw e (flat_turn (entries_of start.args.part start.args.t) (per_entry * row_limit) i c.form_of-form.result.byte head.loop-i.run
           (omega (arith, l)) head.loop-i.invariant.1 (rw e at byte)),

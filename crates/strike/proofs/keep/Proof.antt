@@ -53,14 +53,17 @@ parts c = sym (take-append-drop (c.loop-i.i + 1) (all c))
 
 add-end : tie.Need-overflow_add-end invariant-loop decreases-loop
 add-end c =
-    let room = filled_room c.loop-i.invariant.1 (next c.before.before ∷ []) _ _ (one_more c.before.before) (parts c.before.before) in
-    record { fits = omega (arith, c.put-n.ensures.0, room, ap length (written_one (next c.before.before))) }
+    let after_put_n = c.before.before in
+    let room = filled_room c.loop-i.invariant.1 (next after_put_n ∷ []) _ _ (one_more after_put_n) (parts after_put_n) in
+    record { fits = omega (arith, c.put-n.ensures.0, room, ap length (written_one (next after_put_n))) }
 
 loop-again : tie.Need-loop-i-preserved invariant-loop decreases-loop
 loop-again c =
-    let own = written_one (next c.before.before) in (
+    let after_put_n = c.before.before in
+    let own = written_one (next after_put_n) in (
       omega (arith, c.loop-i-test.true),
-      filled_more c.loop-i.invariant.1 (next c.before.before ∷ []) _ _ (one_more c.before.before) (parts c.before.before) (length c.loop-i.out - c.loop-i.end) c.put-n.result c.put-n.new.out refl
+      filled_more c.loop-i.invariant.1 (next after_put_n ∷ []) _ _ (one_more after_put_n) (parts after_put_n) (length c.loop-i.out - c.loop-i.end)
+          c.put-n.result c.put-n.new.out refl
           (c.put-n.ensures.0 ∙ ap length (sym own))
           (c.put-n.ensures.1 ∙ ap (λ (b : List ℕ). onto b (mid_of c.loop-i.end (length c.loop-i.out - c.loop-i.end) c.loop-i.out)) (sym own)),
     )

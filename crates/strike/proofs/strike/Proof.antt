@@ -29,7 +29,9 @@ row_at c = c.args.row
 
 left_at : (c : tie.After-size_of) → size_of (get_or (table_at c).rows (row_at c) blank)
     + (c.marks_gone-marks.result + length (struck_bytes (row_at c) (contents_in (table_at c)))) ≡ length c.args.table.now
-left_at c = bytes_left (open_at c.before.before.before.before.before.before) (row_at c) c.if-t-r.false c.marks_gone-marks.result c.marks_gone-marks.ensures
+left_at c =
+    let in_read = c.before.before.before.before.before.before in
+    bytes_left (open_at in_read) (row_at c) c.if-t-r.false c.marks_gone-marks.result c.marks_gone-marks.ensures
 
 abbrev length-left : tie.After-size_of → ℕ
 length-left c = length c.args.table.now - c.size_of.result - c.marks_gone-marks.result
@@ -60,7 +62,9 @@ element-copy-out-e : tie.Need-bounds-t-r
 element-copy-out-e c = omega (arith, c.if-t-r.false, (open_fits (open_at c.before.before)).used_fit)
 
 marks-gone-requires : tie.Need-marks_gone-marks-requires
-marks-gone-requires c κs = (c.if-t-r.false, (open_fits (open_at c.before.before.before.before)).used_fit)
+marks-gone-requires c κs =
+    let in_read = c.before.before.before.before in
+    (c.if-t-r.false, (open_fits (open_at in_read)).used_fit)
 
 sub-length : tie.Need-overflow_sub-length
 sub-length c = omega (arith, c.size_of.ensures.0, left_at c)
@@ -69,27 +73,36 @@ sub-length-2 : tie.Need-overflow_sub-length-2
 sub-length-2 c = omega (arith, c.size_of.ensures.0, left_at c)
 
 named-requires : tie.Need-named-requires
-named-requires c κs = open_fits (open_at c.before.before.before.before.before.before)
+named-requires c κs =
+    let in_read = c.before.before.before.before.before.before in
+    open_fits (open_at in_read)
 
 returns_3 : tie.Need-returns-then-why-ne0
 unfolding shown_output
 returns_3 c =
+    let after_size_of = c.before.before.before.before in
+    let in_read = after_size_of.before.before.before.before.before.before in
     let out = c.args.out.now in
     let answer =
-    stopped_answers (open_at c.before.before.before.before.before.before.before.before.before.before) (row_at c.before.before.before.before) c.if-t-r.false out c.named.result _ c.strike_refusal-why.result
-    c.named.ensures (ap (ltb (length out)) (sym (length_at c.before.before.before.before))) c.strike_refusal-why.ensures c.if-why-ne0.true in
+    stopped_answers (open_at in_read) (row_at after_size_of) c.if-t-r.false out c.named.result _ c.strike_refusal-why.result
+    c.named.ensures (ap (ltb (length out)) (sym (length_at after_size_of))) c.strike_refusal-why.ensures c.if-why-ne0.true in
     (rw c.of-then-why-ne0.ensures answer.0, answer.1)
 
 write-requires : tie.Need-write-requires
 write-requires c κs =
-    (open_fits (open_at c.before.before.before.before.before.before.before.before.before.before), c.if-t-r.false, omega (arith, (none_due c.before).1, length_at c.before.before.before.before))
+    let after_size_of = c.before.before.before.before in
+    let in_read = after_size_of.before.before.before.before.before.before in
+    (open_fits (open_at in_read), c.if-t-r.false, omega (arith, (none_due c.before).1, length_at after_size_of))
 
 returns_4 : tie.Need-returns
 unfolding shown_output
 returns_4 c =
-    written_answers (open_at c.before.before.before.before.before.before.before.before.before.before.before.before.before) (row_at c.before.before.before.before.before.before.before) c.if-t-r.false c.args.out.now
-    (sym c.named.ensures ∙ (none_due c.before.before.before.before).0)
-    (omega (arith, (none_due c.before.before.before.before).1, length_at c.before.before.before.before.before.before.before)) c.write.result c.write.new.out c.write.ensures
+    let else_why_ne0 = c.before.before.before.before in
+    let after_size_of = else_why_ne0.before.before.before in
+    let in_read = after_size_of.before.before.before.before.before.before in
+    written_answers (open_at in_read) (row_at after_size_of) c.if-t-r.false c.args.out.now
+    (sym c.named.ensures ∙ (none_due else_why_ne0).0)
+    (omega (arith, (none_due else_why_ne0).1, length_at after_size_of)) c.write.result c.write.new.out c.write.ensures
 
 pub strike_spec : {M : Type 1} → statement M
 strike_spec =

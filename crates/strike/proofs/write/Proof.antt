@@ -56,7 +56,8 @@ mul-question c = record { fits = elim c.if-j-r.branch [ then-j-r w ↦ omega ari
 element-copy-out-question : tie.Need-bounds-t-i-else-i-used invariant-loop decreases-loop
 element-copy-out-question c = elim c.if-j-r.branch [ then-j-r w ↦ omega arith | else-j-r w ↦ omega arith ]
 
-abbrev inv : (c : tie.At-loop-j invariant-loop decreases-loop) → let a = c.args in let u = c.requires.1 in (c.loop-j.j ≤ a.t.tally.rows + a.t.tally.questions - 1)
+abbrev inv : (c : tie.At-loop-j invariant-loop decreases-loop) → let a = c.args in let u = c.requires.1 in
+    (c.loop-j.j ≤ a.t.tally.rows + a.t.tally.questions - 1)
     × Filled (entries (left a.t a.r u)) c.keep-at.new.out (left_to a.t a.r u c.loop-j.j) c.loop-j.at c.loop-j.out
     × (c.loop-j.force ≡ in_force a.t a.r u c.loop-j.j)
 inv c = c.loop-j.invariant c.requires.1
@@ -110,20 +111,28 @@ parts c = left_parts (table_at c) (struck-row c) (there c) (c.loop-j.j + 1) (ome
 
 add_at : tie.Need-overflow_add-at invariant-loop decreases-loop
 add_at c =
-    let room = filled_room (inv c.before.before.before.before.before.before.before).1 (turn c.before.before.before.before) _ _ (more c.before.before.before.before) (parts c.before.before.before.before) in
-    record { fits = omega (arith, c.put-n.ensures.0, room, as_long c.before.before.before.before.before.before.before.before.before.before, c.well_formed) }
+    let joined_i_used = c.before.before.before.before in
+    let at_loop_j = joined_i_used.before.before.before in
+    let after_keep_at = at_loop_j.before.before.before in
+    let room = filled_room (inv at_loop_j).1 (turn joined_i_used) _ _ (more joined_i_used) (parts joined_i_used) in
+    record { fits = omega (arith, c.put-n.ensures.0, room, as_long after_keep_at, c.well_formed) }
 
 loop-again : tie.Need-loop-j-preserved invariant-loop decreases-loop
 loop-again c u =
-    (
+    let joined_i_used = c.before.before.before.before in
+    let at_loop_j = joined_i_used.before.before.before in (
       omega (arith, c.loop-j-test.true),
-      filled_more (inv c.before.before.before.before.before.before.before).1 (turn c.before.before.before.before) _ _ (more c.before.before.before.before) (parts c.before.before.before.before) (length c.loop-j.out - c.loop-j.at) c.put-n.result c.put-n.new.out refl
+      filled_more (inv at_loop_j).1 (turn joined_i_used) _ _ (more joined_i_used) (parts joined_i_used) (length c.loop-j.out - c.loop-j.at)
+          c.put-n.result c.put-n.new.out refl
           c.put-n.ensures.0 c.put-n.ensures.1,
-      force_behind (table_at c.before.before.before.before) (struck-row c.before.before.before.before) (there c.before.before.before.before) c.loop-j.j c.if-i-used.s c.loop-j-test.true (owner_is c.before.before.before.before),
+      force_behind (table_at joined_i_used) (struck-row joined_i_used) (there joined_i_used)
+          c.loop-j.j c.if-i-used.s c.loop-j-test.true (owner_is joined_i_used),
     )
 
 same_length : tie.Need-shape_of-out invariant-loop decreases-loop
-same_length c = filled_length (inv c.before).1 ∙ as_long c.before.before.before.before
+same_length c =
+    let after_keep_at = c.before.before.before.before in
+    filled_length (inv c.before).1 ∙ as_long after_keep_at
 
 returns : tie.Need-returns invariant-loop decreases-loop
 returns c =

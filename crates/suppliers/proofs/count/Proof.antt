@@ -28,7 +28,11 @@ loop-again c =
     let is = flag c.args.flags in (
       omega arith,
       elim c.if-flags-s.branch [ then-flags-s w ↦ omega (arith, w.n-is) | else-flags-s w ↦ omega (arith, w.n-is) ],
-      elim c.if-flags-s.branch [ then-flags-s w ↦ omega (arith, w.n-is, c.loop-s.invariant.2, one_longer is c.loop-s.s w.if-flags-s.true) | else-flags-s w ↦ omega (arith, w.n-is, c.loop-s.invariant.2, ap length (none_listed is c.loop-s.s w.if-flags-s.false)) ],
+      elim c.if-flags-s.branch [
+        | then-flags-s w ↦ omega (arith, w.n-is, c.loop-s.invariant.2, one_longer is c.loop-s.s w.if-flags-s.true)
+        | else-flags-s w ↦
+            omega (arith, w.n-is, c.loop-s.invariant.2, ap length (none_listed is c.loop-s.s w.if-flags-s.false))
+      ],
     )
 
 returns : tie.Need-returns invariant-loop decreases-loop

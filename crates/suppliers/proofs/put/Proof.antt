@@ -34,7 +34,11 @@ loop-again : tie.Need-loop-s-preserved invariant-loop decreases-loop
 loop-again c =
     let was = c.loop-s.invariant.1 in (
       omega arith,
-      elim c.if-flags-s.branch [ then-flags-s w ↦ rw (w.out-is, w.n-is) (written_more was (omega arith) w.if-flags-s.true) | else-flags-s w ↦ rw (w.out-is, w.n-is) (written_less was w.if-flags-s.false) ],
+      elim c.if-flags-s.branch [
+        | then-flags-s w ↦ rw (w.out-is, w.n-is) (written_more was (omega arith) w.if-flags-s.true)
+        | else-flags-s w ↦
+            rw (w.out-is, w.n-is) (written_less was w.if-flags-s.false)
+      ],
     )
 
 same_length : tie.Need-shape_of-out invariant-loop decreases-loop

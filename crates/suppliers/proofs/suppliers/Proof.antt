@@ -26,7 +26,9 @@ use Rattle.suppliers.proofs.suppliers.Tie as tie
 
 -- once the table was read: what it holds, and that the struct shows its rows and suppliers
 abbrev start-at : tie.In-Read → tie.Start
-start-at c = c.before.before.before.before
+start-at c =
+    let start = c.before.before.before.before in
+    start
 
 open_at : (c : tie.In-Read) → Opened (start-at c).args.table.now c.read-got.result
 open_at c = opened (start-at c).args.table.now c.read-got.result c.read-got.ensures c.in-Read.is
@@ -59,7 +61,8 @@ returns c =
 returns_2 : tie.Need-returns-then-t-r
 unfolding list_of
 returns_2 c =
-    let told = c.before.before.before.before in
+    let in_read = c.before.before.before.before in
+    let told = in_read in
     let o = open_at told in
     let a = (start-at told).args in
     let missing = le-leb (length o.contents.rows) a.row (rw (used told) at c.if-t-r.true) in

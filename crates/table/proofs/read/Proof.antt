@@ -34,7 +34,9 @@ loop-holds c = start c.args.s.now c.empty-t.result c.empty-t.ensures
 
 -- at an entry that was read: the loop's head, the bytes, the entry, and that it is what the definition reads there
 abbrev at_head : tie.In-Took invariant-loop decreases-loop → tie.At-loop-at invariant-loop decreases-loop
-at_head c = c.before.before.before.before
+at_head c =
+    let at_loop_at = c.before.before.before.before in
+    at_loop_at
 
 abbrev bytes : tie.In-Took invariant-loop decreases-loop → List ℕ
 bytes c = (at_head c).args.s.now
@@ -63,7 +65,9 @@ constraint_fits c = (room c.before _ c.in-Constraint.is).0
 
 -- the entry stored and counted: where it was read
 abbrev told : tie.After-size_of-at invariant-loop decreases-loop → tie.In-Took invariant-loop decreases-loop
-told c = c.before.before.before.before.before
+told c =
+    let in_took = c.before.before.before.before.before in
+    in_took
 
 inside : (c : tie.After-size_of-at invariant-loop decreases-loop) → (at_head (told c)).loop-at.at + c.size_of-at.result ≤ length (bytes (told c))
 inside c =
@@ -122,7 +126,7 @@ loop-again c =
     (r ∙ ap (λ (k : Kind). force_behind k now.force (entry e).a) (sym p)) in
     rw c.size_of-at.ensures.0
     (elim came.branch [
-      in-Row w ↦ next (Row w.in-Row.field-0) w.in-Row.is w.t-is w.force-is
+      | in-Row w ↦ next (Row w.in-Row.field-0) w.in-Row.is w.t-is w.force-is
       | in-Question w ↦ next (Question w.in-Question.field-0) w.in-Question.is w.t-is w.force-is
       | in-Constraint w ↦ next (Constraint w.in-Constraint.field-0) w.in-Constraint.is w.t-is w.force-is
       | in-Supplier w ↦ next Supplier w.in-Supplier.is w.t-is w.force-is
@@ -130,7 +134,9 @@ loop-again c =
 
 -- at an entry that is refused: the same
 abbrev refused-head : tie.After-struct_known-1 invariant-loop decreases-loop → tie.At-loop-at invariant-loop decreases-loop
-refused-head c = c.before.before.before.before.before
+refused-head c =
+    let at_loop_at = c.before.before.before.before.before in
+    at_loop_at
 
 abbrev refused-bytes : tie.After-struct_known-1 invariant-loop decreases-loop → List ℕ
 refused-bytes c = (refused-head c).args.s.now

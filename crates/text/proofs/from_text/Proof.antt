@@ -41,8 +41,9 @@ copy-requires c κs =
 
 returns_3 : tie.Need-returns
 returns_3 c =
+    let else_why_ne0 = c.before.before.before.before.before in
     let a = c.args in
-    let b = bytes_of c.before.before.before.before.before in
+    let b = bytes_of else_why_ne0 in
     let sends = sends_all (from_text a.text.now) a.out.now b.0 b.1 (omega (arith, c.if-out-length.false, b.2)) in
     (rw b.2 sends.0, c.copy.ensures ∙ rw (b.2, b.3) sends.1)
 

@@ -52,8 +52,11 @@ placed-line-requires c κs = omega (arith, (good_at c).within, next_is c.before)
 abbrev entry : tie.After-enter-entered invariant-loop decreases-loop → Entry
 entry c = entry_at c.before.before
 
-good : (c : tie.After-enter-entered invariant-loop decreases-loop) → Good (text_at c.before.before.before) c.loop-at.at c.loop-at.line (inside c.before.before.before) (entry c)
-good c = good_at c.before.before
+good : (c : tie.After-enter-entered invariant-loop decreases-loop) →
+    Good (text_at c.before.before.before) c.loop-at.at c.loop-at.line (inside c.before.before.before) (entry c)
+good c =
+    let in_took = c.before.before in
+    good_at in_took
 
 abbrev says : tie.After-enter-entered invariant-loop decreases-loop → Said Entry
 says c = said c.loop-at.invariant (inside c.before.before.before) (entry c) (good c)
@@ -62,8 +65,9 @@ says c = said c.loop-at.invariant (inside c.before.before.before) (entry c) (goo
 well : (c : tie.After-enter-entered invariant-loop decreases-loop) → c.placed_line-well.result
     ≡ placed (entry c) c.loop-at.force (row_spelled (drop (line-here c.before.before.before).next (text_at c.before.before.before)))
 well c =
+    let after_line_at_found = c.before.before.before in
     c.placed_line-well.ensures
-    ∙ ap (λ (n : ℕ). placed (entry c) c.loop-at.force (row_spelled (drop n (text_at c.before.before.before)))) (next_is c.before.before.before)
+    ∙ ap (λ (n : ℕ). placed (entry c) c.loop-at.force (row_spelled (drop n (text_at after_line_at_found)))) (next_is after_line_at_found)
 
 judged_as : (c : tie.After-enter-entered invariant-loop decreases-loop) → c.enter-entered.result ≡ shown_entered c.loop-at.tally (says c)
 judged_as c =
@@ -76,7 +80,8 @@ in_table c =
 
 room : (c : tie.In-In invariant-loop decreases-loop) → c.loop-at.length + size_of (entry c.before) ≤ gather_limit
 room c =
-    let fit = has_room c.loop-at.invariant (inside c.before.before.before.before) (entry c.before) (good c.before) (entry c.before) (in_table c).0 in
+    let after_line_at_found = c.before.before.before.before in
+    let fit = has_room c.loop-at.invariant (inside after_line_at_found) (entry c.before) (good c.before) (entry c.before) (in_table c).0 in
     omega (arith, fit, c.loop-at.invariant.there)
 
 loop-holds : tie.Need-loop-at-init invariant-loop decreases-loop
@@ -90,43 +95,54 @@ part-bytes-start c = omega (arith, room c.before)
 
 add-length : tie.Need-overflow_add-length invariant-loop decreases-loop
 add-length c =
-    record { fits = omega (arith, c.put-length.ensures.0, room c.before.before.before.before) }
+    let in_in = c.before.before.before.before in
+    record { fits = omega (arith, c.put-length.ensures.0, room in_in) }
 
 own-unless-requires : tie.Need-own_unless-requires invariant-loop decreases-loop
 own-unless-requires c κs =
+    let after_line_at_found = c.before.before.before.before in
     let g = good c.before in
-    (omega (arith, g.within, next_is c.before.before.before.before), omega (arith, c.loop-at.invariant.few, g.forth, next_is c.before.before.before.before))
+    (omega (arith, g.within, next_is after_line_at_found), omega (arith, c.loop-at.invariant.few, g.forth, next_is after_line_at_found))
 
 returns : tie.Need-returns-in-Out invariant-loop decreases-loop
 returns c =
+    let after_enter_entered = c.before.before.before in
+    let after_line_at_found = after_enter_entered.before.before.before in
     let why = c.in-Out.why in
-    let kept = kept_out (says c.before.before.before) c.loop-at.tally why (sym (judged_as c.before.before.before) ∙ c.in-Out.is) in
-    let said = stopped c.loop-at.invariant (inside c.before.before.before.before.before.before) (entry c.before.before.before) (good c.before.before.before) why kept in
-    rw (said, ← next_is c.before.before.before.before.before.before, ← c.own_unless.ensures) c.refused.ensures
+    let kept = kept_out (says after_enter_entered) c.loop-at.tally why (sym (judged_as after_enter_entered) ∙ c.in-Out.is) in
+    let said = stopped c.loop-at.invariant (inside after_line_at_found) (entry after_enter_entered) (good after_enter_entered) why kept in
+    rw (said, ← next_is after_line_at_found, ← c.own_unless.ensures) c.refused.ensures
 
 returns_2 : tie.Need-returns-in-Bad invariant-loop decreases-loop
 returns_2 c =
+    let after_line_at_found = c.before.before.before in
     let why = c.in-Bad.why in
-    let bad = bad_line (text_at c.before.before.before) c.loop-at.at c.loop-at.line (inside c.before.before.before) why (sym (ap (λ (l : Line). l.said) c.line_at-found.ensures)
+    let bad = bad_line (text_at after_line_at_found) c.loop-at.at c.loop-at.line (inside after_line_at_found)
+    why (sym (ap (λ (l : Line). l.said) c.line_at-found.ensures)
     ∙ c.in-Bad.is) in
     rw (at_bad c.loop-at.invariant (refusal why.number c.loop-at.line) bad, ← c.on_line.ensures) c.refused-in-Bad.ensures
 
 loop-less : tie.Need-loop-at-smaller invariant-loop decreases-loop
 loop-less c =
-    let g = good c.before.before.before.before.before in
-    omega (arith, g.forth, g.within, next_is c.before.before.before.before.before.before.before.before)
+    let after_enter_entered = c.before.before.before.before.before in
+    let after_line_at_found = after_enter_entered.before.before.before in
+    let g = good after_enter_entered in
+    omega (arith, g.forth, g.within, next_is after_line_at_found)
 
 loop-again : tie.Need-loop-at-preserved invariant-loop decreases-loop
 loop-again c =
-    let e = entry c.before.before.before.before.before in
-    let may = in_table c.before.before.before.before in
-    let fit : c.loop-at.length + size_of e ≤ list_length c.loop-at.bytes = omega (arith, room c.before.before.before.before, c.loop-at.invariant.there) in
+    let in_in = c.before.before.before.before in
+    let after_enter_entered = in_in.before in
+    let after_line_at_found = after_enter_entered.before.before.before in
+    let e = entry after_enter_entered in
+    let may = in_table in_in in
+    let fit : c.loop-at.length + size_of e ≤ list_length c.loop-at.bytes = omega (arith, room in_in, c.loop-at.invariant.there) in
     let k : gather_limit - c.loop-at.length ≡ list_length c.loop-at.bytes - c.loop-at.length = omega (arith, c.loop-at.invariant.there) in
     let more =
-    taken c.loop-at.invariant (inside c.before.before.before.before.before.before.before.before) e (good c.before.before.before.before.before) e may.0 _
+    taken c.loop-at.invariant (inside after_line_at_found) e (good after_enter_entered) e may.0 _
     (put_length c.loop-at.bytes e c.loop-at.length fit (gather_limit - c.loop-at.length) c.put-length.new.out k c.put-length.ensures.1)
     (put_front c.loop-at.bytes e c.loop-at.length fit (gather_limit - c.loop-at.length) c.put-length.new.out k c.put-length.ensures.1) in
-    so_as more _ _ _ _ (ap (λ (n : ℕ). c.loop-at.length + n) c.put-length.ensures.0) may.1 c.behind-force.ensures (next_is c.before.before.before.before.before.before.before.before)
+    so_as more _ _ _ _ (ap (λ (n : ℕ). c.loop-at.length + n) c.put-length.ensures.0) may.1 c.behind-force.ensures (next_is after_line_at_found)
 
 returns_3 : tie.Need-returns invariant-loop decreases-loop
 returns_3 c =

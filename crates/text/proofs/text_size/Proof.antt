@@ -34,10 +34,12 @@ loop-again c =
     let inv = c.loop-i.invariant in
     let l : i < t.tally.constraints + t.tally.rows + t.tally.questions = omega (arith, c.loop-i-test.true) in
     let e =
-    unmarked_at t i c.if-i-bound.e l (λ w. (w.if-i-bound.true, w.e-is)) (λ w. (w.if-i-bound.false, w.if-i-ruled.true, w.e-is)) (λ w. (w.if-i-ruled.false, w.e-is))
+    unmarked_at t i c.if-i-bound.e l (λ w. (w.if-i-bound.true, w.e-is)) (λ w. (w.if-i-bound.false, w.if-i-ruled.true, w.e-is))
+    (λ w. (w.if-i-ruled.false, w.e-is))
     c.if-i-bound.branch-raw in
     let s =
-    owner_at t i c.if-i-bound.s l (λ w. (w.if-i-bound.true, w.s-is ∙ inv.2)) (λ w. (w.if-i-bound.false, w.if-i-ruled.true, w.s-is)) (λ w. (w.if-i-ruled.false, w.s-is ∙ inv.2))
+    owner_at t i c.if-i-bound.s l (λ w. (w.if-i-bound.true, w.s-is ∙ inv.2)) (λ w. (w.if-i-bound.false, w.if-i-ruled.true, w.s-is))
+    (λ w. (w.if-i-ruled.false, w.s-is ∙ inv.2))
     c.if-i-bound.branch-raw in
     let more = size_more t i c.if-i-bound.s c.loop-i.force c.if-i-bound.e l inv.2 s e in (
       omega (arith, c.loop-i-test.true),

@@ -39,18 +39,21 @@ text-size-requires c κs = fits c.before
 
 returns_2 : tie.Need-returns-then-out-text_size
 returns_2 c =
+    let in_read = c.before.before.before.before in
     let a = c.args in
-    rw c.of.ensures (sends_short (to_text a.table.now) a.out.now _ (text_is c.before.before.before.before) (rw c.text_size.ensures at c.if-out-text_size.true))
+    rw c.of.ensures (sends_short (to_text a.table.now) a.out.now _ (text_is in_read) (rw c.text_size.ensures at c.if-out-text_size.true))
 
 write-requires : tie.Need-write-requires
 write-requires c κs =
-    (fits c.before.before.before.before, rw c.text_size.ensures at c.if-out-text_size.false)
+    let in_read = c.before.before.before.before in
+    (fits in_read, rw c.text_size.ensures at c.if-out-text_size.false)
 
 returns_3 : tie.Need-returns
 returns_3 c =
+    let in_read = c.before.before.before.before.before.before.before in
     let a = c.args in
     let w = c.write.ensures in
-    let sends = sends_all (to_text a.table.now) a.out.now _ (text_is c.before.before.before.before.before.before.before) (rw c.text_size.ensures at c.if-out-text_size.false) in
+    let sends = sends_all (to_text a.table.now) a.out.now _ (text_is in_read) (rw c.text_size.ensures at c.if-out-text_size.false) in
     (rw w.0 sends.0, w.1 ∙ rw w.0 sends.1)
 
 pub to_text_spec : {M : Type 1} → statement M

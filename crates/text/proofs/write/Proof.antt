@@ -58,6 +58,7 @@ put-lines-requires c κs =
 
 loop-again : tie.Need-loop-i-preserved invariant-loop decreases-loop
 loop-again c =
+    let joined_i_bound = c.before.before.before.before in
     let i = c.loop-i.i in
     let t = c.args.t in
     let inv = c.loop-i.invariant in
@@ -66,9 +67,9 @@ loop-again c =
     let p = c.put_lines-at.ensures in
     let turn = text_of (change c.loop-i.force s ++ (e ∷ [])) in (
       omega (arith, c.loop-i-test.true),
-      omega (arith, p.0, inv.1, size_more t i s c.loop-i.force e (here c.before.before.before.before) inv.2 (owner_is c.before.before.before.before) (entry_is c.before.before.before.before)),
-      force_behind t i s c.loop-i.force e (here c.before.before.before.before) inv.2 (owner_is c.before.before.before.before) (entry_is c.before.before.before.before),
-      p.1 ∙ rw (inv.3, inv.1, text_more t i s c.loop-i.force e (here c.before.before.before.before) inv.2 (owner_is c.before.before.before.before) (entry_is c.before.before.before.before))
+      omega (arith, p.0, inv.1, size_more t i s c.loop-i.force e (here joined_i_bound) inv.2 (owner_is joined_i_bound) (entry_is joined_i_bound)),
+      force_behind t i s c.loop-i.force e (here joined_i_bound) inv.2 (owner_is joined_i_bound) (entry_is joined_i_bound),
+      p.1 ∙ rw (inv.3, inv.1, text_more t i s c.loop-i.force e (here joined_i_bound) inv.2 (owner_is joined_i_bound) (entry_is joined_i_bound))
           (from_front c.args.out.now (text_to t i) turn),
     )
 

@@ -28,14 +28,16 @@ known_is c = ap (λ (n : ℕ). n - 1) (power_shifted c.args.k c.requires.1)
 
 returns : tie.Need-returns-in-Broken
 returns c =
+    let start = c.before.before.before.before.before.before.before in
     let a = c.args in
     let broken = sym c.in-Broken.is ∙ c.met-standing.ensures in
-    let truths = truth_set (entries_in a.rows.now) (entries_in a.questions.now) (known_at c.before.before.before.before.before.before.before) a.facts a.question in
+    let truths = truth_set (entries_in a.rows.now) (entries_in a.questions.now) (known_at start) a.facts a.question in
     ap (λ (s : Standing). heeding s (look truths)) broken
-    ∙ ap (seen_at c.before.before.before.before.before.before.before) (known_is c.before.before.before.before.before.before.before)
+    ∙ ap (seen_at start) (known_is start)
 
 returns_2 : tie.Need-returns
 returns_2 c =
+    let start = c.before.before.before.before.before.before.before.before.before.before.before.before.before.before.before.before.before.before in
     let a = c.args in
     c.heed.ensures
     ∙ ap₂ heeding c.met-standing.ensures
@@ -43,7 +45,7 @@ returns_2 c =
     ∙ visit_sees a.rows.now a.questions.now a.sets.now c.fill_sets.new.sets
     a.truths.now c.fill_truths.new.masks a.question _ a.facts c.requires.0
     c.fill_sets.ensures c.fill_truths.ensures)
-    ∙ ap (seen_at c.before.before.before.before.before.before.before.before.before.before.before.before.before.before.before.before.before.before) (known_is c.before.before.before.before.before.before.before.before.before.before.before.before.before.before.before.before.before.before)
+    ∙ ap (seen_at start) (known_is start)
 
 pub visit_spec : {M : Type 1} → statement M
 visit_spec =

@@ -62,8 +62,9 @@ long c =
 -- the rows that the question looks at
 top_is : (c : tie.After-top_of-top) → c.top_of-top.result ≡ top (entries_in (part c.before.before)) c.args.question
 top_is c =
+    let after_flat_asked = c.before.before in
     c.top_of-top.ensures.0
-    ∙ top_in_lem (part c.before.before) c.args.question (omega (arith, long c.before.before, c.requires.0))
+    ∙ top_in_lem (part after_flat_asked) c.args.question (omega (arith, long after_flat_asked, c.requires.0))
 
 slice-aggregate-questions : tie.Need-slice_bounds-questions-end
 slice-aggregate-questions c = sym (long c.before)
@@ -84,7 +85,8 @@ slice-aggregate-walk-from c =
 
 slice-aggregate-walk-from-2 : tie.Need-slice_bounds-walk_from-end-2
 slice-aggregate-walk-from-2 c =
-    sym (length-take-le (c.args.question + 1) (replicate question_limit 0) (omega (arith, room c.before.before.before.before.before.before, length-replicate {A = ℕ} question_limit 0)))
+    let after_flat_run = c.before.before.before.before.before.before in
+    sym (length-take-le (c.args.question + 1) (replicate question_limit 0) (omega (arith, room after_flat_run, length-replicate {A = ℕ} question_limit 0)))
 
 -- what the question looks at is lent
 all : (c : tie.After-flat-run) → top (entries_in (part c.before.before.before)) c.args.question ≤ c.top_of-top.result
@@ -92,11 +94,15 @@ all c = omega (arith, top_is c.before)
 
 walk_from_requires : tie.Need-walk_from-requires
 walk_from_requires c κs =
+    let after_flat_run = c.before.before.before.before.before.before in
+    let after_flat_asked = after_flat_run.before.before.before in
     let a = c.args in (
       lent (bounds_in a.t) a.t.rows a.t.questions c.flat-run.result c.flat-asked.result (per_entry * row_limit) (per_entry * row_limit)
-          c.top_of-top.result a.question (run_is c.before.before.before.before.before.before) (asked_is c.before.before.before.before.before.before.before.before.before) (all c.before.before.before.before.before.before) (omega (arith, c.top_of-top.ensures.1)) (omega (arith, room c.before.before.before.before.before.before))
+          c.top_of-top.result a.question (run_is after_flat_run) (asked_is after_flat_asked) (all after_flat_run) (omega (arith, c.top_of-top.ensures.1))
+          (omega (arith, room after_flat_run))
           (replicate row_limit 0) (replicate question_limit 0)
-          (omega (arith, c.top_of-top.ensures.1, length-replicate {A = ℕ} row_limit 0)) (omega (arith, room c.before.before.before.before.before.before, length-replicate {A = ℕ} question_limit 0)),
+          (omega (arith, c.top_of-top.ensures.1, length-replicate {A = ℕ} row_limit 0))
+          (omega (arith, room after_flat_run, length-replicate {A = ℕ} question_limit 0)),
       c.requires.1,
       c.requires.2,
       c.requires.3,
@@ -104,14 +110,17 @@ walk_from_requires c κs =
 
 returns : tie.Need-returns
 returns c =
+    let after_flat_bounds = c.before.before.before.before.before.before in
+    let after_flat_run = after_flat_bounds.before.before.before in
+    let after_flat_asked = after_flat_run.before.before.before in
     let a = c.args in
     let seen = c.top_of-top.result in
     let reply : (ℕ → ℕ → Look) → Reply = λ see. reply_of a.budget (walk_from see a.n a.k a.facts) in
     c.walk_from.ensures
-    ∙ ap (λ (constraints : List Entry). reply (sees constraints (entries_in (front seen c.flat-run.result)) (entries_in (part c.before.before.before.before.before.before.before.before.before.before.before.before)) a.question))
-    (bounds_lent c.before.before.before.before.before.before)
+    ∙ ap (λ (constraints : List Entry). reply (sees constraints (entries_in (front seen c.flat-run.result)) (entries_in (part after_flat_asked)) a.question))
+    (bounds_lent after_flat_bounds)
     ∙ ap reply (run_same (bounds_in a.t) a.t.rows a.t.questions c.flat-run.result c.flat-asked.result (per_entry * row_limit) (per_entry * row_limit)
-    seen a.question (run_is c.before.before.before.before.before.before.before.before.before) (asked_is c.before.before.before.before.before.before.before.before.before.before.before.before) (all c.before.before.before.before.before.before.before.before.before))
+    seen a.question (run_is after_flat_run) (asked_is after_flat_asked) (all after_flat_run))
 
 pub walk_at_spec : {M : Type 1} → statement M
 walk_at_spec =

@@ -29,7 +29,8 @@ loop-holds c = (omega arith, λ j l. absurd (omega arith))
 returns_2 : tie.Need-returns-then-w-i invariant-loop decreases-loop
 unfolding shown_word
 returns_2 c =
-    let head = c.before.before.before.before in
+    let at_loop_i = c.before.before.before.before in
+    let head = at_loop_i in
     let told = head.before.before.before in
     let start = told.args in
     let word = told.word_of-word.ensures in
@@ -40,7 +41,8 @@ returns_2 c =
 
 loop-again : tie.Need-loop-i-preserved invariant-loop decreases-loop
 loop-again c =
-    let head = c.before.before.before.before in
+    let at_loop_i = c.before.before.before.before in
+    let head = at_loop_i in
     let told = head.before.before.before in
     let w = told.args.w.now in (
       omega (arith, c.loop-i-test.true),
@@ -50,7 +52,8 @@ loop-again c =
 returns_3 : tie.Need-returns invariant-loop decreases-loop
 unfolding shown_word
 returns_3 c =
-    let told = c.before.before.before.before in
+    let after_word_of_word = c.before.before.before.before in
+    let told = after_word_of_word in
     let start = told.args in
     let word = told.word_of-word.ensures in
     sym (letters_same start.w.now start.kind (c.if-w-word.false ∙ ap (λ (w : Word). w.length) word)

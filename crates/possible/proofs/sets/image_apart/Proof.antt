@@ -23,43 +23,63 @@ image f c = in_words decisions decisions (omega arith) (image_two f false) c.arg
 
 returns : tie.Need-returns-in-TruthMeet
 unfolding mask of_mask bit choosing image_one image_two
-returns c = rw c.in-TruthMeet.is (c.digit.ensures ∙ image truth_meet c.before.before.before.before)
+returns c =
+    let start = c.before.before.before.before in
+    rw c.in-TruthMeet.is (c.digit.ensures ∙ image truth_meet start)
 
 returns_2 : tie.Need-returns-in-TruthJoin
 unfolding mask of_mask bit choosing image_one image_two
-returns_2 c = rw c.in-TruthJoin.is (c.digit-in-TruthJoin.ensures ∙ image truth_join c.before.before.before.before)
+returns_2 c =
+    let start = c.before.before.before.before in
+    rw c.in-TruthJoin.is (c.digit-in-TruthJoin.ensures ∙ image truth_join start)
 
 returns_3 : tie.Need-returns-in-KnowledgeMeet
 unfolding mask of_mask bit choosing image_one image_two
-returns_3 c = rw c.in-KnowledgeMeet.is (c.digit-in-KnowledgeMeet.ensures ∙ image knowledge_meet c.before.before.before.before)
+returns_3 c =
+    let start = c.before.before.before.before in
+    rw c.in-KnowledgeMeet.is (c.digit-in-KnowledgeMeet.ensures ∙ image knowledge_meet start)
 
 returns_4 : tie.Need-returns-in-KnowledgeJoin
 unfolding mask of_mask bit choosing image_one image_two
-returns_4 c = rw c.in-KnowledgeJoin.is (c.digit-in-KnowledgeJoin.ensures ∙ image knowledge_join c.before.before.before.before)
+returns_4 c =
+    let start = c.before.before.before.before in
+    rw c.in-KnowledgeJoin.is (c.digit-in-KnowledgeJoin.ensures ∙ image knowledge_join start)
 
 returns_5 : tie.Need-returns-in-Implication
 unfolding mask of_mask bit choosing image_one image_two
-returns_5 c = rw c.in-Implication.is (c.digit-in-Implication.ensures ∙ image implication c.before.before.before.before)
+returns_5 c =
+    let start = c.before.before.before.before in
+    rw c.in-Implication.is (c.digit-in-Implication.ensures ∙ image implication start)
 
 returns-6 : tie.Need-returns-in-Guard
 unfolding mask of_mask bit choosing image_one image_two
-returns-6 c = rw c.in-Guard.is (c.digit-in-Guard.ensures ∙ image guard c.before.before.before.before)
+returns-6 c =
+    let start = c.before.before.before.before in
+    rw c.in-Guard.is (c.digit-in-Guard.ensures ∙ image guard start)
 
 returns-7 : tie.Need-returns-in-OverrideU
 unfolding mask of_mask bit choosing image_one image_two
-returns-7 c = rw c.in-OverrideU.is (c.digit-in-OverrideU.ensures ∙ image (override U) c.before.before.before.before)
+returns-7 c =
+    let start = c.before.before.before.before in
+    rw c.in-OverrideU.is (c.digit-in-OverrideU.ensures ∙ image (override U) start)
 
 returns_8 : tie.Need-returns-in-OverrideD
 unfolding mask of_mask bit choosing image_one image_two
-returns_8 c = rw c.in-OverrideD.is (c.digit-in-OverrideD.ensures ∙ image (override D) c.before.before.before.before)
+returns_8 c =
+    let start = c.before.before.before.before in
+    rw c.in-OverrideD.is (c.digit-in-OverrideD.ensures ∙ image (override D) start)
 
 returns_9 : tie.Need-returns-in-OverrideG
 unfolding mask of_mask bit choosing image_one image_two
-returns_9 c = rw c.in-OverrideG.is (c.digit-in-OverrideG.ensures ∙ image (override G) c.before.before.before.before)
+returns_9 c =
+    let start = c.before.before.before.before in
+    rw c.in-OverrideG.is (c.digit-in-OverrideG.ensures ∙ image (override G) start)
 
 returns_10 : tie.Need-returns-in-OverrideC
 unfolding mask of_mask bit choosing image_one image_two
-returns_10 c = rw c.in-OverrideC.is (c.digit-in-OverrideC.ensures ∙ image (override C) c.before.before.before.before)
+returns_10 c =
+    let start = c.before.before.before.before in
+    rw c.in-OverrideC.is (c.digit-in-OverrideC.ensures ∙ image (override C) start)
 
 pub image_apart_spec : {M : Type 1} → statement M
 image_apart_spec =

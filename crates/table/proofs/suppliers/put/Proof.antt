@@ -78,7 +78,9 @@ part-put-start : tie.Need-slice_bounds-put-start
 part-put-start c = let mark = c.before.before in omega (arith, both_long mark, all_fit mark, mark.put-n.auto.out)
 
 abbrev mark-at : tie.After-put-2 → tie.After-put-n
-mark-at c = c.before.before.before.before
+mark-at c =
+    let after_put_n = c.before.before.before.before in
+    after_put_n
 
 add-result : tie.Need-overflow_add-result
 add-result c =

@@ -59,14 +59,16 @@ returns_2 c =
 
 returns_3 : tie.Need-returns-then-is_unpadded invariant-loop decreases-loop
 returns_3 c =
-    let all = at_end c.before.before.before.before in
+    let after_loop_i = c.before.before.before.before in
+    let all = at_end after_loop_i in
     let v = all.1.0 c.if-v-ge-NUMBERS.false in
     c.number_with-then-is_unpadded.ensures
     ∙ sym (said_small _ all.0 (omega (arith, v, c.if-v-ge-NUMBERS.false)) ∙ rw (sym c.is_unpadded.ensures ∙ c.if-is_unpadded.true, v))
 
 returns_4 : tie.Need-returns-else-is_unpadded invariant-loop decreases-loop
 returns_4 c =
-    let all = at_end c.before.before.before.before in
+    let after_loop_i = c.before.before.before.before in
+    let all = at_end after_loop_i in
     let v = all.1.0 c.if-v-ge-NUMBERS.false in
     c.number_with-else-is_unpadded.ensures
     ∙ sym (said_small _ all.0 (omega (arith, v, c.if-v-ge-NUMBERS.false)) ∙ rw (sym c.is_unpadded.ensures ∙ c.if-is_unpadded.false))

@@ -55,31 +55,35 @@ part-number-of-end c =
 returns : tie.Need-returns-then-number invariant-loop decreases-loop
 unfolding shown_step
 returns c =
+    let after_number_of_number = c.before.before in
     let start = c.args in
     let kind = start.kind in
     let all =
-    sym c.loop-at.invariant.2 ∙ ap (scan kind c.loop-at.count c.loop-at.good c.loop-at.a c.loop-at.b) (turn c.before.before).0
-    ∙ scan_large kind c.loop-at.count c.loop-at.good c.loop-at.a c.loop-at.b (piece c.before.before) _ (sym (large c.before.before) ∙ c.if-number.true) in
-    c.bad.ensures ∙ ap shown_step (sym all ∙ scan_all kind (pieces_behind space (drop start.end (whole c.before.before))))
+    sym c.loop-at.invariant.2 ∙ ap (scan kind c.loop-at.count c.loop-at.good c.loop-at.a c.loop-at.b) (turn after_number_of_number).0
+    ∙ scan_large kind c.loop-at.count c.loop-at.good c.loop-at.a c.loop-at.b (piece after_number_of_number) _ (sym (large after_number_of_number)
+    ∙ c.if-number.true) in
+    c.bad.ensures ∙ ap shown_step (sym all ∙ scan_all kind (pieces_behind space (drop start.end (whole after_number_of_number))))
 
 loop-again : tie.Need-loop-at-preserved invariant-loop decreases-loop
 loop-again c =
+    let after_number_of_number = c.before.before.before.before in
     let kind = c.args.kind in
-    let small = sym (large c.before.before.before.before) ∙ c.if-number.false in
-    let rest = pieces_behind space (drop c.next_of-to.result (whole c.before.before.before.before)) in
-    let well = well_spelled (piece c.before.before.before.before) in
-    let is = is_small (piece c.before.before.before.before) small in
-    let good = ap (λ (n : Number). n.good) (said c.before.before.before.before) ∙ is.0 in
-    let value = ap (λ (n : Number). n.value) (said c.before.before.before.before) ∙ is.1 in
-    let more = scan_small kind c.loop-at.count c.loop-at.good c.loop-at.a c.loop-at.b (piece c.before.before.before.before) _ small in (
-      (turn c.before.before.before.before).1,
+    let small = sym (large after_number_of_number) ∙ c.if-number.false in
+    let rest = pieces_behind space (drop c.next_of-to.result (whole after_number_of_number)) in
+    let well = well_spelled (piece after_number_of_number) in
+    let is = is_small (piece after_number_of_number) small in
+    let good = ap (λ (n : Number). n.good) (said after_number_of_number) ∙ is.0 in
+    let value = ap (λ (n : Number). n.value) (said after_number_of_number) ∙ is.1 in
+    let more = scan_small kind c.loop-at.count c.loop-at.good c.loop-at.a c.loop-at.b (piece after_number_of_number) _ small in (
+      (turn after_number_of_number).1,
       omega (arith, c.loop-at.invariant.1, c.next_of-to.ensures),
       ap (λ (g : Bool). scan kind (c.loop-at.count + 1) (c.loop-at.good && g) c.pick-a.result c.pick-b.result rest) good
           ∙ ap (λ (x : ℕ). scan kind (c.loop-at.count + 1) (c.loop-at.good && well) x c.pick-b.result rest)
           (c.pick-a.ensures ∙ ap (λ (v : ℕ). cond (eqb c.loop-at.count 0) v c.loop-at.a) value)
-          ∙ ap (λ (y : ℕ). scan kind (c.loop-at.count + 1) (c.loop-at.good && well) (cond (eqb c.loop-at.count 0) (worth (piece c.before.before.before.before)) c.loop-at.a) y rest)
+          ∙ ap (λ (y : ℕ). scan kind (c.loop-at.count + 1) (c.loop-at.good && well)
+          (cond (eqb c.loop-at.count 0) (worth (piece after_number_of_number)) c.loop-at.a) y rest)
           (c.pick-b.ensures ∙ ap (λ (v : ℕ). cond (eqb c.loop-at.count 1) v c.loop-at.b) value)
-          ∙ sym more ∙ ap (scan kind c.loop-at.count c.loop-at.good c.loop-at.a c.loop-at.b) (sym (turn c.before.before.before.before).0) ∙ c.loop-at.invariant.2,
+          ∙ sym more ∙ ap (scan kind c.loop-at.count c.loop-at.good c.loop-at.a c.loop-at.b) (sym (turn after_number_of_number).0) ∙ c.loop-at.invariant.2,
     )
 
 -- behind the last piece

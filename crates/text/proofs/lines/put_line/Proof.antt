@@ -22,7 +22,15 @@ put-numbers-requires c κs =
 
 put_byte_requires : tie.Need-put_byte-requires
 put_byte_requires c κs =
-    omega (arith, c.requires, line_long c.args.e, c.put_word-word.ensures.0, c.put_word-word.auto.out, c.put_numbers-numbers.ensures.0, c.put_numbers-numbers.auto.out)
+    omega (
+      arith,
+      c.requires,
+      line_long c.args.e,
+      c.put_word-word.ensures.0,
+      c.put_word-word.auto.out,
+      c.put_numbers-numbers.ensures.0,
+      c.put_numbers-numbers.auto.out,
+    )
 
 returns : tie.Need-returns
 unfolding line_of

@@ -37,16 +37,18 @@ put-line-requires-2 c κs = omega (arith, c.requires, both_long c, ap length (ma
 
 put-line-requires-3 : tie.Need-put_line-requires-2
 put-line-requires-3 c κs =
-    omega (arith, c.requires, both_long c.before.before.before.before, ap length (mark_line c.before.before.before.before), c.put_line-next.ensures.0, c.put_line-next.auto.out)
+    let after_supplying = c.before.before.before.before in
+    omega (arith, c.requires, both_long after_supplying, ap length (mark_line after_supplying), c.put_line-next.ensures.0, c.put_line-next.auto.out)
 
 returns_2 : tie.Need-returns
 returns_2 c =
+    let after_supplying = c.before.before.before.before.before.before.before in
     let a = c.args in
     let one = c.put_line-next.ensures in
     let two = c.put_line-2.ensures in
     let both = other_lines a.force a.s a.e c.if-s-force.false in (
-      omega (arith, two.0, one.0, both_long c.before.before.before.before.before.before.before, ap length (mark_line c.before.before.before.before.before.before.before)),
-      two.1 ∙ rw (one.0, one.1, mark_line c.before.before.before.before.before.before.before, both) (sym (sets_append (line_of (supplying a.s)) (line_of a.e) a.out.now a.at)),
+      omega (arith, two.0, one.0, both_long after_supplying, ap length (mark_line after_supplying)),
+      two.1 ∙ rw (one.0, one.1, mark_line after_supplying, both) (sym (sets_append (line_of (supplying a.s)) (line_of a.e) a.out.now a.at)),
     )
 
 pub put_lines_spec : {M : Type 1} → statement M

@@ -34,12 +34,14 @@ loop-holds c = (omega arith, refl)
 
 add-out : tie.Need-overflow_add-out invariant-loop decreases-loop
 add-out c =
-    record { fits = omega (arith, c.loop-i-test.true, long c.before.before.before.before, c.requires, c.well_formed.0.0) }
+    let after_word_of_word = c.before.before.before.before in
+    record { fits = omega (arith, c.loop-i-test.true, long after_word_of_word, c.requires, c.well_formed.0.0) }
 
 slice-write-out : tie.Need-bounds-out-at invariant-loop decreases-loop
 slice-write-out c =
+    let after_word_of_word = c.before.before.before.before in
     let same = length-sets c.args.out.now c.args.at (first_letters c.word_of-word.result c.loop-i.i) in
-    omega (arith, c.loop-i-test.true, long c.before.before.before.before, c.requires, ap length c.loop-i.invariant.1, same)
+    omega (arith, c.loop-i-test.true, long after_word_of_word, c.requires, ap length c.loop-i.invariant.1, same)
 
 loop-again : tie.Need-loop-i-preserved invariant-loop decreases-loop
 loop-again c =
@@ -61,10 +63,11 @@ same_length c =
 
 returns : tie.Need-returns invariant-loop decreases-loop
 returns c =
-    let w = word_of (kind-of c.before.before.before) in
-    let i : c.loop-i.i ≡ length w = omega (arith, c.loop-i.invariant.0, c.loop-i-test.false, long c.before.before.before) in
+    let after_word_of_word = c.before.before.before in
+    let w = word_of (kind-of after_word_of_word) in
+    let i : c.loop-i.i ≡ length w = omega (arith, c.loop-i.invariant.0, c.loop-i-test.false, long after_word_of_word) in
     let all : first_letters c.word_of-word.result c.loop-i.i ≡ w =
-    ap (λ (x : Word). first_letters x c.loop-i.i) c.word_of-word.ensures ∙ rw i (first_letters_lem (kind-of c.before.before.before) (length w) (omega arith)
+    ap (λ (x : Word). first_letters x c.loop-i.i) c.word_of-word.ensures ∙ rw i (first_letters_lem (kind-of after_word_of_word) (length w) (omega arith)
     ∙ take-length w) in
     (omega (arith, i), c.loop-i.invariant.1 ∙ ap (sets c.args.out.now c.args.at) all)
 
