@@ -2,9 +2,9 @@
 -- Assumes nothing.
 use mathlib.Core.Path.{◌≡◌, refl, sym, ◌∙◌}
 use mathlib.Core.Bool.{Bool, true, false, cond}
-use Prim.Native.Nat.{ℕ, zero, suc, ◌+◌, ◌^◌, ◌≤◌, ◌<◌}
+use Prim.Native.Nat.{ℕ, zero, suc, ◌+◌, ◌^◌, ◌<◌}
 use native.Mathlib.Omega.{arith}
-use native.Mathlib.Nat.{one-le-pow, two-pow-succ}
+use native.Mathlib.Nat.{two-pow-succ}
 use Rattle.entries.proofs.Numbers.{by_equal}
 use Rattle.decide.specs.Meaning.{bit}
 use Rattle.possible.proofs.Bits.{bit_above, bit_set, bit_else, same_bits}

@@ -3,7 +3,7 @@
 use mathlib.Core.Path.{◌≡◌, refl, sym, ap₂, ◌∙◌}
 use mathlib.Core.Bool.{Bool, true, ◌&&◌}
 use mathlib.Core.List.{List, [], ◌∷◌, ◌++◌}
-use Prim.Native.Nat.{ℕ, zero, suc, ◌+◌, ◌*◌, ◌≤◌, ◌<◌}
+use Prim.Native.Nat.{ℕ, suc, ◌+◌, ◌*◌, ◌≤◌, ◌<◌}
 use native.Mathlib.Omega.{arith}
 use native.Mathlib.Nat.{zero-add}
 use lib.ListN.{length, get_or}
@@ -37,7 +37,7 @@ use Rattle.clauses.specs.declared.Literal.{Literal}
 use Rattle.clauses.specs.declared.Layout.{Layout}
 use Rattle.clauses.specs.Clauses.{in_range}
 use Rattle.clauses.specs.Rules.{row_rules, spelled}
-use Rattle.clauses.specs.Variables.{yes, claims_at, entry_clauses, clauses_from, false_clause, layout_of, variables_of, negation_of}
+use Rattle.clauses.specs.Variables.{yes, entry_clauses, clauses_from, false_clause, layout_of, variables_of, negation_of}
 use Rattle.clauses.proofs.Saying.{claims}
 
 -- a row's literals, by those of the rows and the predicate that it names

@@ -22,7 +22,6 @@ use Rattle.clauses.specs.declared.Clause.{Clause}
 use Rattle.clauses.specs.declared.Rule.{Rule}
 use Rattle.clauses.specs.declared.Rule.TheVariants.{Only, Either, Same, And, AndOr, OrAndOr}
 use Rattle.clauses.specs.declared.Rules.{Rules}
-use Rattle.clauses.specs.declared.Rules.TheVariants as Rules
 
 -- the negation of a literal; a literal, or its negation where it is said to be false
 abbrev pub negated : Literal → Literal

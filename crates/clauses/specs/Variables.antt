@@ -8,8 +8,6 @@ use Rattle.clauses.specs.declared.Literal.{Literal}
 use Rattle.clauses.specs.declared.Claims.{Claims}
 use Rattle.clauses.specs.declared.Layout.{Layout}
 use Rattle.clauses.specs.declared.Rules.{Rules}
-use Rattle.clauses.specs.declared.Rules.TheVariants as Rules
-use Rattle.clauses.specs.declared.Rule.TheVariants.{Only}
 use Rattle.clauses.specs.Rules.{negated, row_rules, question_rule, constraint_rule, spelled}
 
 abbrev pub yes : ℕ → Literal

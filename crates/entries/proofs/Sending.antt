@@ -6,7 +6,6 @@ use Prim.Native.Nat.{ℕ, ◌≤◌, ◌<◌}
 use lib.ListN.{length, drop}
 use borrow.Author.Tests.{lt-ltb, le-ltb, lt-leb, le-leb}
 use Rattle.entries.specs.declared.refusals.Refusal.{Refusal}
-use Rattle.entries.specs.declared.refusals.Output.{Output}
 use Rattle.entries.specs.declared.refusals.Output.TheVariants.{Written, Refused}
 use Rattle.entries.specs.Refusals.{output_too_short}
 use Rattle.entries.specs.Said.{Said, answered, refusing, refusal}

@@ -7,7 +7,7 @@ use Prim.Native.Nat.{ℕ, ◌≤◌}
 use lib.ListN.{length, take, drop}
 use lib.Seq.{take-append_seam, drop-append_seam}
 use borrow.Author.Tests.{lt-ltb, le-ltb, le-leb}
-use Rattle.entries.specs.Said.{Said, answered, refusing, refusal}
+use Rattle.entries.specs.Said.{Said, answered, refusing}
 use Rattle.entries.specs.Entries.{onto}
 use Rattle.entries.specs.Output.{sent, output_of}
 use Rattle.entries.proofs.Numbers.{by_order}

@@ -7,7 +7,6 @@ use Rattle.lookup.specs.declared.Part.{Part}
 use Rattle.entries.specs.Refusals.{not_there, bad_mask}
 use Rattle.entries.specs.Said.{Said, answered, refusing, and_then, unless}
 use Rattle.entries.specs.declared.refusals.Output.{Output}
-use Rattle.entries.specs.declared.refusals.Output.TheVariants as Output
 use Rattle.entries.specs.Output.{sent, output_of}
 use Rattle.table.specs.Contents.{Contents, predicates}
 use Rattle.table.specs.Reading.{reading}

@@ -4,7 +4,7 @@ use mathlib.Core.Path.{◌≡◌, refl, sym, ap, ◌∙◌}
 use mathlib.Core.Bool.{Bool, true, false, cond, ◌&&◌, ◌||◌}
 use mathlib.Core.List.{[], ◌∷◌}
 use mathlib.Core.Logic.{⊎_elim}
-use Prim.Native.Nat.{ℕ, zero, suc, ◌-◌, ◌≤◌, ◌<◌}
+use Prim.Native.Nat.{ℕ, zero, suc, ◌≤◌, ◌<◌}
 use native.Mathlib.Omega.{arith}
 use lib.Dec.{ltb, eqb}
 use borrow.Author.Tests.{eqb-true, ltb-true, ltb-false, lt-ltb, le-ltb}
@@ -19,7 +19,7 @@ use Rattle.entries.specs.declared.refusals.Refusal.{Refusal}
 use Rattle.entries.specs.Refusals.{predicate_too_high, not_to_be_named, out_of_order, too_many_rows, too_many_questions, too_many_constraints}
 use Rattle.entries.specs.Refusals.{idle_supplier}
 use Rattle.entries.specs.Refusals.{at_kind_byte, at_number, of_entries, is_among}
-use Rattle.entries.specs.Said.{Said, answered, refusing, refusal, unless}
+use Rattle.entries.specs.Said.{answered, refusing, refusal, unless}
 use Rattle.entries.specs.Entries.{numbers_of, names_of}
 use Rattle.table.specs.Steps.{row_limit, question_limit, constraint_limit, number_place, room_by, no_room, limit, named_at, fits, first_unfit}
 use Rattle.table.specs.Steps.{offending, misnamed, misnaming, placed_by, unless_placed, permitted}

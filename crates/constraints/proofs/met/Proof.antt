@@ -1,7 +1,6 @@
 -- That `met` (src/lib.rt) keeps its promise.
 use mathlib.Core.Path.{◌≡◌, sym, ◌∙◌}
 use mathlib.Core.Bool.{Bool, true, false, cond}
-use mathlib.Core.Logic.{⊎_elim}
 use mathlib.Core.List.{List}
 use Rattle.entries.specs.declared.Entry.{Entry}
 use Prim.Native.Nat.{◌-◌, ◌≤◌, ◌<◌}

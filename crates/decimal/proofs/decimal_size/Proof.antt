@@ -1,9 +1,9 @@
 -- That `decimal_size` (src/lib.rt) keeps its promise.
-use mathlib.Core.Path.{◌≡◌, sym, ap}
+use mathlib.Core.Path.{◌≡◌, ap}
 use native.Mathlib.Omega.{arith}
-use Prim.Native.Nat.{ℕ, ◌+◌, ◌^◌, ◌≤◌, ◌<◌}
+use Prim.Native.Nat.{ℕ, ◌+◌, ◌≤◌, ◌<◌}
 use lib.ListN.{length}
-use Rattle.decimal.specs.Decimal.{base, decimal}
+use Rattle.decimal.specs.Decimal.{decimal}
 use Rattle.decimal.proofs.Numerals.{decimal_low, decimal_longer, decimal_within}
 use borrow.Author.Rules.{rules}
 use Rattle.decimal.proofs.decimal_size.Statement.{statement}

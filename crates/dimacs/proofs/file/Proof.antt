@@ -1,13 +1,12 @@
 -- That `file` (src/lib.rt) keeps its promise.
-use mathlib.Core.Path.{◌≡◌, refl, sym, ap, ap₂, ◌∙◌}
+use mathlib.Core.Path.{◌≡◌, sym, ap, ap₂, ◌∙◌}
 use mathlib.Core.List.{List}
-use Prim.Native.Nat.{ℕ, ◌+◌, ◌*◌, ◌≤◌, ◌<◌}
+use Prim.Native.Nat.{ℕ, ◌+◌, ◌*◌, ◌≤◌}
 use native.Mathlib.Omega.{arith}
 use lib.ListN.{length}
 use borrow.Author.Tests.{lt-leb, le-leb}
 use Rattle.entries.specs.Said.{answered, refusal}
 use Rattle.entries.specs.Refusals.{not_there}
-use Rattle.entries.specs.Output.{Sends}
 use Rattle.entries.proofs.Sending.{sends_none}
 use Rattle.table.specs.declared.Table.{Table}
 use Rattle.table.specs.Steps.{predicate_limit}

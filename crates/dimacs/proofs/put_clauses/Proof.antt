@@ -2,7 +2,6 @@
 use mathlib.Core.Path.{◌≡◌}
 use mathlib.Core.List.{List, ◌++◌}
 use Prim.Native.Nat.{ℕ}
-use native.Mathlib.Omega.{arith}
 use Rattle.decimal.proofs.Stores.{put_then, room_first, room_then}
 use Rattle.clauses.specs.Variables.{false_clause}
 use Rattle.dimacs.specs.Dimacs.{clause_text, text_of, clauses_in, clauses_over}

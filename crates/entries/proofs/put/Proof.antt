@@ -1,6 +1,5 @@
 -- That `put` (src/lib.rt) keeps its promise.
 use mathlib.Core.Path.{◌≡◌, ap, ◌∙◌}
-use mathlib.Core.Logic.{⊎_elim}
 use native.Mathlib.Omega.{arith}
 use lib.ListN.{length, length-set}
 use Rattle.kinds.specs.declared.Form.{Form}

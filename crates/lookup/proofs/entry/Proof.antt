@@ -1,6 +1,5 @@
 -- That `entry` (src/lib.rt) keeps its promise.
 use mathlib.Core.Path.{◌≡◌, refl, sym, ◌∙◌}
-use Prim.Native.Nat.{◌-◌}
 use native.Mathlib.Omega.{arith}
 use Rattle.lookup.specs.declared.Part.{Part}
 use Rattle.entries.specs.Said.{answered}

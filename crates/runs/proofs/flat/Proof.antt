@@ -7,7 +7,6 @@ use Rattle.table.specs.Reading.{first_of}
 use native.Mathlib.Omega.{arith}
 use Prim.Native.Nat.{◌*◌, ◌-◌, ◌≤◌, ◌<◌}
 use lib.ListN.{get_or}
-use mathlib.Core.Logic.{⊎_elim}
 use Rattle.entries.specs.Entries.{blank}
 use mathlib.Core.Path.{◌≡◌, refl, ap}
 use borrow.Author.Rules.{rules}

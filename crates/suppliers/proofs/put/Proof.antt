@@ -1,6 +1,5 @@
 -- That `put` (src/lib.rt) keeps its promise.
 use mathlib.Core.Path.{◌≡◌}
-use mathlib.Core.Logic.{⊎_elim}
 use Prim.Native.Nat.{◌≤◌, ◌-◌}
 use native.Mathlib.Omega.{arith}
 use Rattle.entries.specs.Entries.{number_limit}

@@ -1,5 +1,5 @@
 -- That `walk_from` (src/lib.rt) keeps its promise.
-use Rattle.std.proofs.Common.{◌≡◌, ◌+◌, ◌-◌, ◌^◌, ◌≤◌, ◌<◌, sym, ◌∙◌, arith}
+use Rattle.std.proofs.Common.{sym, ◌∙◌, arith}
 use Rattle.walk.proofs.Replies.{count_of_lem, held_count, no_budget, ends_here, goes_below, first_ends, second_ends}
 use Rattle.walk.specs.Inner.{sees_in}
 use Rattle.walk.proofs.+walk_from.Goals as goal

@@ -1,6 +1,6 @@
 -- That `steps::body_at` (src/steps.rt) keeps its promise.
 use mathlib.Core.Path.{sym, ap}
-use Prim.Native.Nat.{◌≤◌, ◌<◌, ◌-◌, ◌+◌}
+use Prim.Native.Nat.{◌≤◌, ◌<◌, ◌+◌}
 use native.Mathlib.Omega.{arith}
 use lib.ListN.{length, drop, length-drop}
 use Rattle.kinds.specs.declared.Form.{Form}

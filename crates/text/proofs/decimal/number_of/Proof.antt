@@ -6,7 +6,6 @@ use mathlib.Core.List.{List}
 use native.Mathlib.Omega.{arith}
 use lib.ListN.{length, take}
 use lib.Seq.{take-length}
-use borrow.Author.Tests.{not-true, not-false}
 use Rattle.text.specs.Decimal.{digits_alone, value_from}
 use Rattle.text.proofs.Numerals.{alone_next, not_alone, Near, near_next, said_other, said_large, said_small}
 use borrow.Author.Rules.{rules}
