@@ -68,9 +68,9 @@ returns_4 : tie.Need-returns-else-is_unpadded invariant-loop decreases-loop
 returns_4 c =
     let after_loop_i = c.before.before.before.before in
     let all = at_end after_loop_i in
-    let v = all.1.0 c.if-v-ge-NUMBERS.false in
+    let small = all.1.0 c.if-v-ge-NUMBERS.false in
     c.number_with-else-is_unpadded.ensures
-    ∙ sym (said_small _ all.0 (omega (arith, v, c.if-v-ge-NUMBERS.false)) ∙ rw (sym c.is_unpadded.ensures ∙ c.if-is_unpadded.false))
+    ∙ sym (said_small _ all.0 (omega (arith, small, c.if-v-ge-NUMBERS.false)) ∙ rw (sym c.is_unpadded.ensures ∙ c.if-is_unpadded.false))
 
 pub number_of_spec : {M : Type 1} → statement M
 number_of_spec =
