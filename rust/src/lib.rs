@@ -176,7 +176,7 @@ refusals! {
         | "it is a 65th question";
     8: "the row or question asked for is not there";
     9: "the row to strike is named by a row or question";
-    10: "a mask has a bit that stands for no predicate, or a yes that is not known";
+    10: "a mask has a bit above 23, or a yes that is not known";
     11: "the output is shorter than the bytes to write";
     12: | "the word is missing or unknown, or a number is above 255";
     13: | "it is misspelt (it needs a word and as many numbers as that takes, a single \
