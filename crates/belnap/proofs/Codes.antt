@@ -2,7 +2,7 @@
 -- Assumes nothing.
 use mathlib.Core.Path.{◌≡◌, refl}
 use mathlib.Core.Bool.{Bool, true, false}
-use Prim.Native.Nat.{ℕ, zero, suc, ◌+◌, ◌*◌, ◌<◌, ◌≤◌}
+use Prim.Native.Nat.{ℕ, zero, suc, ◌+◌, ◌*◌, ◌<◌}
 use native.Mathlib.Omega.{arith}
 use mir.Val.{bool_byte}
 use Rattle.belnap.specs.declared.Decision.{Decision}
@@ -23,11 +23,6 @@ code_coded (suc zero) h = refl
 code_coded (suc (suc zero)) h = refl
 code_coded (suc (suc (suc zero))) h = refl
 code_coded (suc (suc (suc (suc n)))) h = absurd (omega arith)
-
--- a claim as a bit is at most 1
-pub bit_small : (p : Bool) → bool_byte p ≤ 1
-bit_small true = omega arith
-bit_small false = omega arith
 
 -- "denies" counts 1 in a code, and "grants" 2
 pub code_claims : (p q : Bool) → code (claiming p q) ≡ 2 * bool_byte p + bool_byte q

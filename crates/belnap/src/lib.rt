@@ -8,35 +8,25 @@ pub mod orders;
 ghost use Rattle.std.specs.Prelude.{◌≡◌};
 ghost use Rattle.belnap.specs.Decisions.{grants, denies, claiming, code, coded};
 
-#[derive(Clone, Copy)]
+#[derive(Clone, Copy, Debug, PartialEq, Eq)]
 pub enum Decision {
-    U,
-    D,
-    G,
-    C,
+    U = 0,
+    D = 1,
+    G = 2,
+    C = 3,
 }
 
 // "Each decision is two claims, 'grants' and 'denies': u has neither, d only denies, g only grants, c has both."
 pub fn grants(x: Decision) -> bool
     ensures { result ≡ grants x }
 {
-    match x {
-        Decision::U => false,
-        Decision::D => false,
-        Decision::G => true,
-        Decision::C => true, // c has both claims
-    }
+    matches!(x, Decision::G | Decision::C)
 }
 
 pub fn denies(x: Decision) -> bool
     ensures { result ≡ denies x }
 {
-    match x {
-        Decision::U => false,
-        Decision::D => true,
-        Decision::G => false,
-        Decision::C => true,
-    }
+    matches!(x, Decision::D | Decision::C)
 }
 
 // The decision with these two claims. Its code has them as bits: "denies" counts 1, "grants" 2.
@@ -49,12 +39,7 @@ pub fn claiming(grants: bool, denies: bool) -> Decision
 pub fn code_of(x: Decision) -> u8
     ensures { result ≡ code x }
 {
-    match x {
-        Decision::U => 0,
-        Decision::D => 1,
-        Decision::G => 2,
-        Decision::C => 3,
-    }
+    x as u8
 }
 
 // The decision with a code; a number that is no code reads as u.

@@ -3,11 +3,10 @@
 -- Assumes nothing.
 use Rattle.belnap.specs.One.{One}
 use Rattle.belnap.proofs.Unique.{by_definition}
-use Rattle.clauses.proofs.negated.Reads as negated
+use Rattle.clauses.proofs.LiteralNot.not.Reads as negated
 use Rattle.clauses.proofs.truth_at.Reads as truth_at
 use Rattle.clauses.proofs.rules_of.Reads as rules_of
 use Rattle.clauses.proofs.clause_count.Reads as clause_count
-use Rattle.clauses.proofs.one.Reads as one
 use Rattle.clauses.proofs.clause_of.Reads as clause_of
 
 pub one_negation : One negated.Post
@@ -21,9 +20,6 @@ one_rules κs args exit = by_definition
 
 pub one_count : One clause_count.Post
 one_count κs args exit a b p q = by_definition a b p.0 q.0
-
-pub one_literal : One one.Post
-one_literal κs args exit = by_definition
 
 pub one_clause : One clause_of.Post
 one_clause κs args exit = by_definition

@@ -1,5 +1,5 @@
 -- The rules of each kind over the claims of the rows that it names, and the clauses of a rule (02, L7; docs/SOLVERS.md).
-use Rattle.std.specs.Prelude.{ℕ, Bool, true, cond, not, List, [], ◌∷◌, ◌++◌}
+use Rattle.std.specs.Prelude.{Bool, cond, not, List, [], ◌∷◌, ◌++◌, Option, Some}
 use Rattle.belnap.specs.declared.Decision.{Decision}
 use Rattle.belnap.specs.declared.Decision.TheVariants.{U, D, G, C}
 use Rattle.belnap.specs.declared.orders.Order.{Order}
@@ -19,6 +19,7 @@ use Rattle.kinds.specs.declared.ConstraintKind.TheVariants.{NeverBoth, OnlyIf}
 use Rattle.clauses.specs.declared.Literal.{Literal}
 use Rattle.clauses.specs.declared.Claims.{Claims}
 use Rattle.clauses.specs.declared.Clause.{Clause}
+use Rattle.clauses.specs.declared.Clause.TheVariants.{Three}
 use Rattle.clauses.specs.declared.Rule.{Rule}
 use Rattle.clauses.specs.declared.Rule.TheVariants.{Only, Either, Same, And, AndOr, OrAndOr}
 use Rattle.clauses.specs.declared.Rules.{Rules}
@@ -46,18 +47,18 @@ clauses_of (OrAndOr t a b c d) =
 abbrev pub any_of : Literal → Literal → Literal → Rule
 any_of t a b = And (negated t) (negated a) (negated b)
 
--- the struct that shows a clause of up to three literals; past them it holds what is no literal, as no variable is 0
-abbrev pub past : Literal
-past = record { variable = 0; positive = true }
+-- the clause of these literals, one to three of them; there is none of no literal
+abbrev pub shown_clause : List Literal → Option Clause
+shown_clause [] = Option.None
+shown_clause (a ∷ []) = Some (Clause.One a)
+shown_clause (a ∷ b ∷ []) = Some (Clause.Two a b)
+shown_clause (a ∷ b ∷ c ∷ more) = Some (Three a b c)
 
-abbrev pub clause_with : ℕ → Literal → Literal → Literal → Clause
-clause_with length a b c = record { length = length; a = a; b = b; c = c }
-
-abbrev pub shown_clause : List Literal → Clause
-shown_clause [] = clause_with 0 past past past
-shown_clause (a ∷ []) = clause_with 1 a past past
-shown_clause (a ∷ b ∷ []) = clause_with 2 a b past
-shown_clause (a ∷ b ∷ c ∷ more) = clause_with 3 a b c
+-- the literals that a clause has
+abbrev pub literals_in : Clause → List Literal
+literals_in (Clause.One a) = a ∷ []
+literals_in (Clause.Two a b) = a ∷ b ∷ []
+literals_in (Three a b c) = a ∷ b ∷ c ∷ []
 
 -- the one-row operators: the claims of the row itself by those of the row that it names
 abbrev pub one_rules : OneRow → Claims → Claims → Rules

@@ -1,8 +1,7 @@
 // The clauses that the entries of a table give to a solver: an entry has rules, and a rule its clauses (docs/SOLVERS.md).
 #![tactic(auto)]
 
-ghost use Rattle.std.specs.Prelude.{◌≡◌, [], ◌∷◌, ◌≤◌, ◌<◌, length, get_or};
-ghost use Rattle.clauses.specs.declared.Rule.TheVariants.{Same, And, AndOr, OrAndOr};
+ghost use Rattle.std.specs.Prelude.{◌≡◌, [], ◌≤◌, length, get_or};
 ghost use Rattle.clauses.specs.Rules.{negated as negation, signed as signing, any_of, clauses_of, shown_clause, one_rules, overriding as overridden};
 ghost use Rattle.clauses.specs.Rules.{override_rules, two_rules, row_rules, comparison as compared, question_rule, constraint_rule};
 ghost use Rattle.clauses.specs.Variables.{yes as is_true, predicate_at, claims_at, truth_at, rules_by};
@@ -11,16 +10,17 @@ use belnap::Decision;
 use belnap::orders::Order;
 use kinds::{ConstraintKind, Kind, QuestionKind, RowKind};
 use operators::{OneRow, TwoRow};
+use std::ops::Not;
 
 // A variable, or its negation.
-#[derive(Clone, Copy)]
+#[derive(Clone, Copy, Debug, PartialEq, Eq)]
 pub struct Literal {
     pub variable: usize,
     pub positive: bool,
 }
 
 // A row's two claims.
-#[derive(Clone, Copy)]
+#[derive(Clone, Copy, Debug, PartialEq, Eq)]
 pub struct Claims {
     pub grants: Literal,
     pub denies: Literal,
@@ -28,7 +28,7 @@ pub struct Claims {
 
 // What a literal is tied to: it is true; one of two is; and the first is true exactly if the second is, if the second and third are, if the second and one
 // of the others are, or if one of the second and third and one of the others are.
-#[derive(Clone, Copy)]
+#[derive(Clone, Copy, Debug, PartialEq, Eq)]
 pub enum Rule {
     Only(Literal),
     Either(Literal, Literal),
@@ -39,7 +39,7 @@ pub enum Rule {
 }
 
 // The rules of an entry.
-#[derive(Clone, Copy)]
+#[derive(Clone, Copy, Debug, PartialEq, Eq)]
 pub enum Rules {
     None,
     One(Rule),
@@ -47,28 +47,31 @@ pub enum Rules {
 }
 
 // A clause: its literals, one to three of them.
-#[derive(Clone, Copy)]
-pub struct Clause {
-    pub length: usize,
-    pub a: Literal,
-    pub b: Literal,
-    pub c: Literal,
+#[derive(Clone, Copy, Debug, PartialEq, Eq)]
+pub enum Clause {
+    One(Literal),
+    Two(Literal, Literal),
+    Three(Literal, Literal, Literal),
 }
 
 // The counts of a table that its variables go by.
-#[derive(Clone, Copy)]
+#[derive(Clone, Copy, Debug, PartialEq, Eq)]
 pub struct Layout {
     pub predicates: u32,
     pub rows: u32,
 }
 
 // A literal's negation.
-pub fn negated(l: Literal) -> Literal
-    ensures { result ≡ negation l }
-{
-    Literal {
-        variable: l.variable,
-        positive: !l.positive,
+impl Not for Literal {
+    type Output = Literal;
+
+    ghost not_gives = { λ l result. result ≡ negation l };
+
+    fn not(self) -> Literal {
+        Literal {
+            variable: self.variable,
+            positive: !self.positive,
+        }
     }
 }
 
@@ -76,14 +79,14 @@ pub fn negated(l: Literal) -> Literal
 fn signed(said: bool, l: Literal) -> Literal
     ensures { result ≡ signing said l }
 {
-    if said { l } else { negated(l) }
+    if said { l } else { !l }
 }
 
 // "t = a or b".
 fn any(t: Literal, a: Literal, b: Literal) -> Rule
     ensures { result ≡ any_of t a b }
 {
-    Rule::And(negated(t), negated(a), negated(b))
+    Rule::And(!t, !a, !b)
 }
 
 // The one-row operators by their rules over the claims.
@@ -96,12 +99,9 @@ fn one_rules(op: OneRow, own: Claims, x: Claims) -> Rules
     let dx = x.denies;
     match op {
         OneRow::Negation => Rules::Two(Rule::Same(g, dx), Rule::Same(d, gx)),
-        OneRow::Conflation => Rules::Two(Rule::Same(g, negated(dx)), Rule::Same(d, negated(gx))),
-        OneRow::ClosedDefault => Rules::Two(
-            Rule::And(g, gx, negated(dx)),
-            Rule::Same(d, negated(g)),
-        ),
-        OneRow::OpenDefault => Rules::Two(Rule::Same(g, negated(d)), Rule::And(d, dx, negated(gx))),
+        OneRow::Conflation => Rules::Two(Rule::Same(g, !dx), Rule::Same(d, !gx)),
+        OneRow::ClosedDefault => Rules::Two(Rule::And(g, gx, !dx), Rule::Same(d, !g)),
+        OneRow::OpenDefault => Rules::Two(Rule::Same(g, !d), Rule::And(d, dx, !gx)),
     }
 }
 
@@ -146,7 +146,7 @@ fn two_rules(op: TwoRow, own: Claims, x: Claims, y: Claims) -> Rules
         TwoRow::TruthJoin => Rules::Two(any(g, gx, gy), Rule::And(d, dx, dy)),
         TwoRow::KnowledgeMeet => Rules::Two(Rule::And(g, gx, gy), Rule::And(d, dx, dy)),
         TwoRow::KnowledgeJoin => Rules::Two(any(g, gx, gy), any(d, dx, dy)),
-        TwoRow::Implication => Rules::Two(any(g, negated(gx), gy), Rule::And(d, gx, dy)),
+        TwoRow::Implication => Rules::Two(any(g, !gx, gy), Rule::And(d, gx, dy)),
         TwoRow::Guard => Rules::Two(Rule::And(g, gx, gy), Rule::And(d, gx, dy)),
         TwoRow::OverrideU => override_rules(Decision::U, own, x, y),
         TwoRow::OverrideD => override_rules(Decision::D, own, x, y),
@@ -166,8 +166,8 @@ fn row_rules(kind: RowKind, p: Literal, own: Claims, x: Claims, y: Claims) -> Ru
             Rule::Only(signed(belnap::grants(v), g)),
             Rule::Only(signed(belnap::denies(v), d)),
         ),
-        RowKind::DenyIf => Rules::Two(Rule::Only(negated(g)), Rule::Same(d, p)),
-        RowKind::GrantIf => Rules::Two(Rule::Same(g, p), Rule::Only(negated(d))),
+        RowKind::DenyIf => Rules::Two(Rule::Only(!g), Rule::Same(d, p)),
+        RowKind::GrantIf => Rules::Two(Rule::Same(g, p), Rule::Only(!d)),
         RowKind::One(op) => one_rules(op, own, x),
         RowKind::Two(op) => two_rules(op, own, x, y),
     }
@@ -182,8 +182,8 @@ fn comparison(order: Order, own: Literal, x: Claims, y: Claims) -> Rule
     let gy = y.grants;
     let dy = y.denies;
     match order {
-        Order::Truth => Rule::OrAndOr(own, negated(gx), gy, negated(dy), dx),
-        Order::Knowledge => Rule::OrAndOr(own, negated(gx), gy, negated(dx), dy),
+        Order::Truth => Rule::OrAndOr(own, !gx, gy, !dy, dx),
+        Order::Knowledge => Rule::OrAndOr(own, !gx, gy, !dx, dy),
     }
 }
 
@@ -200,7 +200,7 @@ fn question_rule(
 {
     match kind {
         QuestionKind::Compare(order) => comparison(order, own, u, v),
-        QuestionKind::Not => Rule::Same(own, negated(x)),
+        QuestionKind::Not => Rule::Same(own, !x),
         QuestionKind::Both => Rule::And(own, x, y),
     }
 }
@@ -210,8 +210,8 @@ fn constraint_rule(kind: ConstraintKind, p: Literal, q: Literal) -> Rule
     ensures { result ≡ constraint_rule kind p q }
 {
     match kind {
-        ConstraintKind::NeverBoth => Rule::Either(negated(p), negated(q)),
-        ConstraintKind::OnlyIf => Rule::Either(negated(p), q),
+        ConstraintKind::NeverBoth => Rule::Either(!p, !q),
+        ConstraintKind::OnlyIf => Rule::Either(!p, q),
     }
 }
 
@@ -229,7 +229,7 @@ fn yes(variable: usize) -> Literal
 fn predicate_at(p: u8) -> Literal
     ensures { result ≡ predicate_at p }
 {
-    yes(p as usize + 1)
+    yes(usize::from(p) + 1)
 }
 
 fn claims_at(layout: Layout, r: u32) -> Claims
@@ -253,8 +253,8 @@ pub fn truth_at(layout: Layout, j: u32) -> Literal
 pub fn rules_of(layout: Layout, number: u32, kind: Kind, a: u8, b: u8) -> Rules
     ensures { result ≡ rules_by layout number kind a b }
 {
-    let i = a as u32;
-    let j = b as u32;
+    let i = u32::from(a);
+    let j = u32::from(b);
     let x = claims_at(layout, i);
     let y = claims_at(layout, j);
     match kind {
@@ -290,120 +290,29 @@ pub fn clause_count(rule: Rule) -> usize
     }
 }
 
-// What stands past the literals of a clause, and the clause of no literal, of one, of two, and of three.
-fn none() -> Literal
-    ensures { result ≡ is_true 0 }
-{
-    Literal {
-        variable: 0,
-        positive: true,
-    }
-}
-
-fn empty() -> Clause
-    ensures { result ≡ shown_clause [] }
-{
-    let past = none();
-    Clause {
-        length: 0,
-        a: past,
-        b: past,
-        c: past,
-    }
-}
-
-pub fn one(a: Literal) -> Clause
-    ensures { result ≡ shown_clause (a ∷ []) }
-{
-    let past = none();
-    Clause {
-        length: 1,
-        a,
-        b: past,
-        c: past,
-    }
-}
-
-fn two(a: Literal, b: Literal) -> Clause
-    ensures { result ≡ shown_clause (a ∷ b ∷ []) }
-{
-    let past = none();
-    Clause {
-        length: 2,
-        a,
-        b,
-        c: past,
-    }
-}
-
-fn three(a: Literal, b: Literal, c: Literal) -> Clause
-    ensures { result ≡ shown_clause (a ∷ b ∷ c ∷ []) }
-{
-    Clause { length: 3, a, b, c }
-}
-
-// The clauses of "t = a", of "t = a and b", of "t = a and (b or c)", and of "t = (a or b) and (c or d)".
-fn same_clause(t: Literal, a: Literal, i: usize) -> Clause
-    requires { i < 2 }
-    ensures { result ≡ shown_clause (get_or (clauses_of (Same t a)) i []) }
-{
-    if i == 0 {
-        two(negated(t), a)
-    } else {
-        two(t, negated(a))
-    }
-}
-
-fn and_clause(t: Literal, a: Literal, b: Literal, i: usize) -> Clause
-    requires { i < 3 }
-    ensures { result ≡ shown_clause (get_or (clauses_of (And t a b)) i []) }
-{
-    match i {
-        0 => two(negated(t), a),
-        1 => two(negated(t), b),
-        _ => three(t, negated(a), negated(b)),
-    }
-}
-
-fn and_or_clause(t: Literal, a: Literal, b: Literal, c: Literal, i: usize) -> Clause
-    requires { i < 4 }
-    ensures { result ≡ shown_clause (get_or (clauses_of (AndOr t a b c)) i []) }
-{
-    match i {
-        0 => two(negated(t), a),
-        1 => three(negated(t), b, c),
-        2 => three(t, negated(a), negated(b)),
-        _ => three(t, negated(a), negated(c)),
-    }
-}
-
-fn or_and_or_clause(t: Literal, a: Literal, b: Literal, c: Literal, d: Literal, i: usize) -> Clause
-    requires { i < 6 }
-    ensures { result ≡ shown_clause (get_or (clauses_of (OrAndOr t a b c d)) i []) }
-{
-    match i {
-        0 => three(negated(t), a, b),
-        1 => three(negated(t), c, d),
-        2 => three(t, negated(a), negated(c)),
-        3 => three(t, negated(a), negated(d)),
-        4 => three(t, negated(b), negated(c)),
-        _ => three(t, negated(b), negated(d)),
-    }
-}
-
-// Clause i of a rule; where it has none, the clause of no literal.
-pub fn clause_of(rule: Rule, i: usize) -> Clause
+// Clause i of a rule, where it has one. Always inlined, so that a caller takes its literals from the rule, and not from a copy.
+#[inline(always)]
+pub fn clause_of(rule: Rule, i: usize) -> Option<Clause>
     ensures { result ≡ shown_clause (get_or (clauses_of rule) i []) }
 {
-    if clause_count(rule) <= i {
-        return empty();
-    }
-    match rule {
-        Rule::Only(t) => one(t),
-        Rule::Either(a, b) => two(a, b),
-        Rule::Same(t, a) => same_clause(t, a, i),
-        Rule::And(t, a, b) => and_clause(t, a, b, i),
-        Rule::AndOr(t, a, b, c) => and_or_clause(t, a, b, c, i),
-        Rule::OrAndOr(t, a, b, c, d) => or_and_or_clause(t, a, b, c, d, i),
+    match (rule, i) {
+        (Rule::Only(t), 0) => Some(Clause::One(t)),
+        (Rule::Either(a, b), 0) => Some(Clause::Two(a, b)),
+        (Rule::Same(t, a), 0) => Some(Clause::Two(!t, a)),
+        (Rule::Same(t, a), 1) => Some(Clause::Two(t, !a)),
+        (Rule::And(t, a, _), 0) => Some(Clause::Two(!t, a)),
+        (Rule::And(t, _, b), 1) => Some(Clause::Two(!t, b)),
+        (Rule::And(t, a, b), 2) => Some(Clause::Three(t, !a, !b)),
+        (Rule::AndOr(t, a, _, _), 0) => Some(Clause::Two(!t, a)),
+        (Rule::AndOr(t, _, b, c), 1) => Some(Clause::Three(!t, b, c)),
+        (Rule::AndOr(t, a, b, _), 2) => Some(Clause::Three(t, !a, !b)),
+        (Rule::AndOr(t, a, _, c), 3) => Some(Clause::Three(t, !a, !c)),
+        (Rule::OrAndOr(t, a, b, _, _), 0) => Some(Clause::Three(!t, a, b)),
+        (Rule::OrAndOr(t, _, _, c, d), 1) => Some(Clause::Three(!t, c, d)),
+        (Rule::OrAndOr(t, a, _, c, _), 2) => Some(Clause::Three(t, !a, !c)),
+        (Rule::OrAndOr(t, a, _, _, d), 3) => Some(Clause::Three(t, !a, !d)),
+        (Rule::OrAndOr(t, _, b, c, _), 4) => Some(Clause::Three(t, !b, !c)),
+        (Rule::OrAndOr(t, _, b, _, d), 5) => Some(Clause::Three(t, !b, !d)),
+        _ => None,
     }
 }

@@ -1,4 +1,3 @@
 -- Laws of constraints; below this file, a folder for each function that has a proof of its own.
-pub mod Standings
 pub mod Requests
 pub mod Unique

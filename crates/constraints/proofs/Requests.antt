@@ -19,8 +19,14 @@ use Rattle.table.proofs.Laws.{constraint_uses}
 use Rattle.decide.specs.Meaning.{bit}
 use Rattle.decide.specs.Requests.{Fills, AllKnown}
 use Rattle.constraints.specs.declared.Standing.TheVariants.{Broken, Waiting, Kept}
-use Rattle.constraints.specs.Constraints.{keeps, kept_by, within, known_yes, known_no, breaks, waits, broken_by, waited_by, standing}
-use Rattle.constraints.proofs.Standings.{standing_tells}
+use Rattle.constraints.specs.Constraints.{keeps, kept_by, within, known_yes, known_no, breaks, waits, broken_by, waited_by, standing_by, standing}
+
+-- what each outcome tells of the two tests
+standing_tells : (p q : Bool) → (standing_by p q ≡ Broken → p ≡ true) × (standing_by p q ≡ Waiting → (p ≡ false) × (q ≡ true)) ×
+    (standing_by p q ≡ Kept → (p ≡ false) × (q ≡ false))
+standing_tells true q = (λ e. refl, λ e. never cc, λ e. never cc)
+standing_tells false true = (λ e. never cc, λ e. (refl, refl), λ e. never cc)
+standing_tells false false = (λ e. never cc, λ e. never cc, λ e. (refl, refl))
 
 -- the facts say yes only of what is known
 abbrev pub OnlyKnown : ℕ → ℕ → Type 0

@@ -3,28 +3,26 @@
 
 ghost use Rattle.std.specs.Prelude.{◌≡◌};
 ghost use Rattle.kinds.specs.Kinds.{as_constraint};
-ghost use Rattle.runs.specs.Flat.{kind_in, entries_in};
 ghost use Rattle.constraints.specs.Constraints.{known_yes, stands_by, standing};
 
+use entries::Entry;
 use kinds::{ConstraintKind, Kind};
 
 // How known facts stand to constraints: they break one; they break none, but one waits for what is unknown; or neither.
-#[derive(Clone, Copy)]
+#[derive(Clone, Copy, Debug, PartialEq, Eq)]
 pub enum Standing {
     Broken,
     Waiting,
     Kept,
 }
 
-// The kind of constraint that a byte of a run announces: any but the byte of "never both" reads as "only if".
-fn kind_at(byte: u8) -> ConstraintKind
-    ensures { result ≡ as_constraint (kind_in byte) }
+// What is no constraint reads as "only if".
+fn as_constraint(kind: Kind) -> ConstraintKind
+    ensures { result ≡ as_constraint kind }
 {
-    let form = kinds::form_of(Kind::Constraint(ConstraintKind::NeverBoth));
-    if byte == form.byte {
-        ConstraintKind::NeverBoth
-    } else {
-        ConstraintKind::OnlyIf
+    match kind {
+        Kind::Constraint(constraint) => constraint,
+        _ => ConstraintKind::OnlyIf,
     }
 }
 
@@ -61,27 +59,19 @@ fn stands_by(kind: ConstraintKind, known: u32, facts: u32, a: u8, b: u8) -> Stan
     }
 }
 
-// How known facts stand to the constraints of a run, with these predicates known and these of them yes.
-pub fn met(run: &[u8], known: u32, facts: u32) -> Standing
-    ensures { result ≡ standing (entries_in run.now) known facts }
+// How known facts stand to constraints, with these predicates known and these of them yes.
+#[tactic(auto, unfolding(crate::specs::Constraints::standing))]
+pub fn met(constraints: &[Entry], known: u32, facts: u32) -> Standing
+    ensures { result ≡ standing constraints.now known facts }
 {
-    let count = run.len() / runs::PER_ENTRY;
     let mut waits = false;
-    let mut i = 0;
-    while i < count {
-        let at = runs::PER_ENTRY * i;
-        let kind = kind_at(run[at]);
-        let stands = stands_by(kind, known, facts, run[at + 1], run[at + 2]);
-        match stands {
-            Standing::Broken => {
-                return Standing::Broken;
-            }
-            Standing::Waiting => {
-                waits = true;
-            }
+    for e in constraints {
+        let kind = as_constraint(e.kind);
+        match stands_by(kind, known, facts, e.a, e.b) {
+            Standing::Broken => return Standing::Broken,
+            Standing::Waiting => waits = true,
             Standing::Kept => {}
         }
-        i += 1;
     }
     if waits {
         Standing::Waiting

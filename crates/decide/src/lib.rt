@@ -13,6 +13,7 @@ use kinds::RowKind;
 use table::Table;
 
 // A predicate's bit of a mask.
+#[tactic(auto, unfolding(crate::specs::Meaning::bit))]
 pub fn bit_of(mask: u32, predicate: u8) -> bool
     ensures { result ≡ bit mask predicate }
 {
@@ -23,6 +24,7 @@ pub fn bit_of(mask: u32, predicate: u8) -> bool
 }
 
 // What a row decides where the rows that it names decide x and y.
+#[tactic(auto, unfolding(crate::specs::Meaning::decide_by))]
 fn decide_by(kind: RowKind, predicate: u8, request: u32, x: Decision, y: Decision) -> Decision
     ensures { result ≡ decide_by kind predicate request x y }
 {
@@ -49,24 +51,17 @@ fn decide_below(t: Table, end: usize, request: u32) -> [Decision; Table::ROWS]
     ensures { result ≡ padded U row_limit (values (decides request) U t.rows end) }
 {
     let mut d = [Decision::U; Table::ROWS];
-    let mut i = 0;
-    while i < end {
-        let e = t.rows[i];
-        let kind = e.kind;
-        let row_kind = kinds::as_row(kind);
-        let predicate = e.a;
-        let a = entries::index(e.a);
-        let b = entries::index(e.b);
-        let x = d[a];
-        let y = d[b];
-        let v = decide_by(row_kind, predicate, request, x, y);
-        d[i] = v;
-        i += 1;
+    for (i, e) in t.rows[..end].iter().enumerate() {
+        let kind = kinds::as_row(e.kind);
+        let x = d[entries::index(e.a)];
+        let y = d[entries::index(e.b)];
+        d[i] = decide_by(kind, e.a, request, x, y);
     }
     d
 }
 
 // What row `row` of a table decides at a request, given as its yes mask; a row that no table has room for reads u.
+#[tactic(auto, using(crate::proofs::RowByRow::before_there, table::proofs::Padding::padded_at))]
 pub fn decide(t: Table, row: usize, request: u32) -> Decision
     ensures { result ≡ decision_in t.rows request row }
 {

@@ -9,13 +9,16 @@ use native.Mathlib.Numerals.{add-one}
 use native.Mathlib.Nat.{pow-suc}
 use lib.ListN.{length, get_or, take, length-append}
 use lib.Seq.{take-suc}
+use Rattle.std.proofs.lemmas.List.{take_all}
 use lib.Dec.{eqb, leb, ltb}
 use borrow.Author.Tests.{lt-ltb, le-ltb, le-leb, lt-leb, leb-true, ltb-true, eqb-false, ne_eqb, not-true}
 use Rattle.belnap.proofs.Finite.{both_parts, never}
 use Rattle.entries.specs.Entries.{number_limit}
 use Rattle.entries.proofs.Numbers.{by_order}
 use Rattle.decimal.specs.Decimal.{base, zero_digit, is_digit, digits, decimal, digits_alone, value_from, value, too_large, unpadded, well_spelled}
-use Rattle.decimal.specs.Decimal.{number_with, number_said}
+use Rattle.decimal.specs.Decimal.{number_said}
+use Rattle.decimal.specs.declared.Misread.TheVariants.{Large, Misspelt}
+use Rattle.std.specs.Prelude.{Ok, Err}
 
 -- a conjunction of what is true
 both : (p q : Bool) → p ≡ true → q ≡ true → (p && q) ≡ true
@@ -181,23 +184,23 @@ decimal_within (suc k) n h l =
     some zero high l on = absurd (omega arith)
     some (suc k) high l on = omega (arith, decimal_longer n high, on (omega arith) (omega (arith, pow-suc base (suc k))))
 
--- a piece of one byte at most, and a longer one, without a zero before others
-pub unpadded_short : (p : List ℕ) → length p < 2 → unpadded p ≡ eqb (length p) 1
-unpadded_short [] l = refl
-unpadded_short (x ∷ []) l = refl
-unpadded_short (x ∷ y ∷ p) l = absurd (omega arith)
+-- so a number that one byte can be has at most three
+pub decimal_byte : (n : ℕ) → n < number_limit → length (decimal n) ≤ 3
+decimal_byte n h = decimal_within 3 n (omega arith) (omega arith)
 
-pub unpadded_long : (p : List ℕ) → 2 ≤ length p → unpadded p ≡ not (eqb (get_or p 0 0) zero_digit)
-unpadded_long [] l = absurd (omega arith)
-unpadded_long (x ∷ []) l = absurd (omega arith)
-unpadded_long (x ∷ y ∷ p) l = refl
+-- one below the base has one digit, and one of 64 bits at most twenty
+pub decimal_one : (n : ℕ) → n < base → length (decimal n) ≡ 1
+decimal_one n l = ap length (decimal_low n l)
+
+pub decimal_short : (n : ℕ) → n < 18446744073709551616 → length (decimal n) ≤ 20
+decimal_short n l = decimal_within 20 n (omega arith) (omega arith)
 
 -- digits up to a place, and a digit there
-pub alone_next : (p : List ℕ) (i : ℕ) → i < length p → digits_alone (take i p) ≡ true → is_digit (get_or p i 0) ≡ true → digits_alone (take
+alone_next : (p : List ℕ) (i : ℕ) → i < length p → digits_alone (take i p) ≡ true → is_digit (get_or p i 0) ≡ true → digits_alone (take
     (i + 1) p) ≡ true
 alone_next p i l a d = rw (add-one i, take-suc p i 0 l) (alone_more (take i p) (get_or p i 0) a d)
 
-pub not_alone : (p : List ℕ) (i : ℕ) → i < length p → is_digit (get_or p i 0) ≡ false → digits_alone p ≡ false
+not_alone : (p : List ℕ) (i : ℕ) → i < length p → is_digit (get_or p i 0) ≡ false → digits_alone p ≡ false
 not_alone [] i l d = absurd (omega arith)
 not_alone (x ∷ p) zero l d = rw d
 not_alone (x ∷ p) (suc i) l d = go (is_digit x) (not_alone p i (omega arith) d)
@@ -207,30 +210,55 @@ not_alone (x ∷ p) (suc i) l d = go (is_digit x) (not_alone p i (omega arith) d
     go false h = refl
 
 -- the value of the code: the number's own, or both are above the limit
-abbrev pub Near : ℕ → ℕ → Type 0
+abbrev Near : ℕ → ℕ → Type 0
 Near v n = (v < number_limit → n ≡ v) × (number_limit ≤ v → number_limit ≤ n)
 
-pub near_more : (v n x : ℕ) → Near v n → Near (cond (ltb v number_limit) (v * base + (x - zero_digit)) v) (n * base + (x - zero_digit))
+near_more : (v n x : ℕ) → Near v n → Near (cond (ltb v number_limit) (v * base + (x - zero_digit)) v) (n * base + (x - zero_digit))
 near_more v n x h =
     by_order v number_limit
     (λ l. rw (lt-ltb v number_limit l, h.0 l) (λ k. refl, λ k. k))
     (λ l. let far = h.1 l in rw (le-ltb v number_limit l) (λ k. absurd (omega arith), λ k. omega arith))
 
-pub near_next : (p : List ℕ) (i v : ℕ) → i < length p → Near v (value_from 0 (take i p)) →
-    Near (cond (ltb v number_limit) (v * base + (get_or p i 0 - zero_digit)) v) (value_from 0 (take (i + 1) p))
-near_next p i v l h =
-    rw (add-one i, take-suc p i 0 l, value_more 0 (take i p) (get_or p i 0)) (near_more v (value_from 0 (take i p)) (get_or p i 0) h)
+-- what is known of the first bytes of a piece: they are digits, with the code's value
+pub record Seen (p : List ℕ) (i v : ℕ) : Type 0 where
+  pub alone : digits_alone (take i p) ≡ true
+  pub near : Near v (value_from 0 (take i p))
 
--- what is said of a piece with another byte among its digits; of digits alone whose value is above the limit; and of others
-pub said_other : (p : List ℕ) → digits_alone p ≡ false → number_said p ≡ number_with false false 0
+pub seen_none : (p : List ℕ) → Seen p 0 0
+seen_none p = record { alone = refl; near = (λ l. refl, λ l. l) }
+
+-- with one digit more
+pub seen_next : (p : List ℕ) (i v w : ℕ) → Seen p i v → i < length p → is_digit (get_or p i 0) ≡ true →
+    w ≡ cond (ltb v number_limit) (v * base + (get_or p i 0 - zero_digit)) v → Seen p (i + 1) w
+seen_next p i v w h l d q = record {
+  alone = alone_next p i l h.alone d;
+  near = rw (q, add-one i, take-suc p i 0 l, value_more 0 (take i p) (get_or p i 0)) (near_more v (value_from 0 (take i p)) (get_or p i 0) h.near);
+}
+
+-- what is said of a piece with another byte among its digits; and once every byte was seen, by the code's value
+pub said_other : (p : List ℕ) (i : ℕ) → i < length p → is_digit (get_or p i 0) ≡ false → number_said p ≡ Err Misspelt
 unfolding number_said too_large well_spelled
-said_other p a = rw a
+said_other p i l d = rw (not_alone p i l d)
 
-pub said_large : (p : List ℕ) → digits_alone p ≡ true → number_limit ≤ value_from 0 p → number_said p ≡ number_with true false 0
-unfolding number_said too_large value
-said_large p a h = rw (a, le-leb number_limit (value_from 0 p) h)
+module _ (p : List ℕ) (i v : ℕ) (seen : Seen p i v) (end : length p ≤ i) where
+  whole : (digits_alone p ≡ true) × Near v (value_from 0 p)
+  whole = let all : take i p ≡ p = take_all i p end in (rw all at seen.alone, rw all at seen.near)
 
-pub said_small : (p : List ℕ) → digits_alone p ≡ true → value_from 0 p < number_limit →
-    number_said p ≡ cond (unpadded p) (number_with false true (value_from 0 p)) (number_with false false 0)
-unfolding number_said too_large well_spelled value
-said_small p a h = rw (a, lt-leb number_limit (value_from 0 p) h)
+  pub said_large : number_limit ≤ v → number_said p ≡ Err Large
+  unfolding number_said too_large value
+  said_large h = rw (whole.0, le-leb number_limit (value_from 0 p) (whole.1.1 h))
+
+  small : v < number_limit → number_said p ≡ cond (unpadded p) (Ok v) (Err Misspelt)
+  unfolding number_said too_large well_spelled value
+  small h =
+      let is : value_from 0 p ≡ v = whole.1.0 h in
+      rw (whole.0, is, lt-leb number_limit v h)
+
+  pub said_well : v < number_limit → unpadded p ≡ true → number_said p ≡ Ok v
+  said_well h w = rw (small h, w)
+
+  pub said_padded : v < number_limit → unpadded p ≡ false → number_said p ≡ Err Misspelt
+  said_padded h w = rw (small h, w)
+
+-- what `number_of` (src/lib.rt) is proved with
+pub ruleset reading = (seen_none, said_other, said_large)

@@ -1,8 +1,9 @@
 -- A number in decimal, and what stands between and behind numbers (02, L2 and L7).
-use Rattle.std.specs.Prelude.{ℕ, zero, suc, ◌+◌, ◌-◌, ◌*◌, ◌/◌, ◌%◌, Bool, true, false, cond, not, ◌&&◌, List, [], ◌∷◌, ◌++◌, eqb, leb, ltb}
+use Rattle.std.specs.Prelude.{ℕ, zero, suc, ◌+◌, ◌-◌, ◌*◌, ◌/◌, ◌%◌, Bool, true, false, cond, not, ◌&&◌, List, [], ◌∷◌, ◌++◌, Result, Ok, Err, eqb, leb, ltb}
 use Rattle.entries.specs.Lists.{every}
 use Rattle.entries.specs.Entries.{number_limit}
-use Rattle.decimal.specs.declared.Number.{Number}
+use Rattle.decimal.specs.declared.Misread.{Misread}
+use Rattle.decimal.specs.declared.Misread.TheVariants.{Large, Misspelt}
 
 -- ten digits, whose bytes begin with that of 0
 abbrev pub base : ℕ
@@ -47,13 +48,9 @@ unpadded (x ∷ y ∷ more) = not (eqb x zero_digit)
 unfoldable pub well_spelled : List ℕ → Bool
 well_spelled piece = digits_alone piece && unpadded piece
 
--- a piece as a number
-abbrev pub number_with : Bool → Bool → ℕ → Number
-number_with large good value = record { large = large; good = good; value = value }
-
-unfoldable pub number_said : List ℕ → Number
-number_said piece = cond (too_large piece) (number_with true false 0)
-    (cond (well_spelled piece) (number_with false true (value piece)) (number_with false false 0))
+-- a piece as a number that one byte can be, or why it is none: 12's reason goes before 13's
+unfoldable pub number_said : List ℕ → Result ℕ Misread
+number_said piece = cond (too_large piece) (Err Large) (cond (well_spelled piece) (Ok (value piece)) (Err Misspelt))
 
 abbrev pub space : ℕ
 space = 32

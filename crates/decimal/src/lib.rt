@@ -3,7 +3,7 @@
 
 ghost use Rattle.std.specs.Prelude.{◌≡◌, cond, true, ◌∷◌, [], ◌+◌, ◌-◌, ◌*◌, ◌≤◌, ◌<◌, length, ltb};
 ghost use Rattle.entries.specs.Entries.{number_limit};
-ghost use Rattle.decimal.specs.Decimal.{base, zero_digit, is_digit, decimal, unpadded, number_with, number_said};
+ghost use Rattle.decimal.specs.Decimal.{base, zero_digit, is_digit, decimal, unpadded, number_said};
 ghost use Rattle.decimal.specs.Put.{Stores};
 
 const BASE: u8 = 10;
@@ -38,6 +38,7 @@ pub fn put_decimal(out: &mut [u8], at: usize, n: usize) -> usize
 }
 
 // How many digits a number has: one, and one more for each time that it can be divided.
+#[tactic(auto, using(crate::proofs::Numerals::decimal_longer, crate::proofs::Numerals::decimal_one, crate::proofs::Numerals::decimal_short))]
 pub fn decimal_size(n: usize) -> usize
     ensures { (result ≡ length (decimal n)) × (result ≤ 20) }
 {
@@ -50,12 +51,11 @@ pub fn decimal_size(n: usize) -> usize
     size
 }
 
-// What a piece of a line is as a number: above 255, or spelled well or not; and its value, 0 where it is not spelled well.
-#[derive(Clone, Copy)]
-pub struct Number {
-    pub large: bool,
-    pub good: bool,
-    pub value: u8,
+// Why a piece of a line is no number that a byte can be: its digits are a number above 255; or it has none, another byte, or a zero before others.
+#[derive(Clone, Copy, Debug, PartialEq, Eq)]
+pub enum Misread {
+    Large,
+    Misspelt,
 }
 
 fn is_digit(x: u8) -> bool
@@ -85,32 +85,24 @@ fn is_unpadded(piece: &[u8]) -> bool
     piece[0] != b'0'
 }
 
-fn number_with(large: bool, good: bool, value: u8) -> Number
-    ensures { result ≡ number_with large good value }
-{
-    Number { large, good, value }
-}
-
 // A piece as a number.
-pub fn number_of(piece: &[u8]) -> Number
+#[tactic(auto, using(crate::proofs::Numerals::reading))]
+pub fn number_of(piece: &[u8]) -> Result<u8, Misread>
     ensures { result ≡ number_said piece.now }
 {
     let mut v = 0;
-    let mut i = 0;
-    while i < piece.len() {
-        let x = piece[i];
-        if !is_digit(x) {
-            return number_with(false, false, 0);
+    for x in piece {
+        if !is_digit(*x) {
+            return Err(Misread::Misspelt);
         }
-        v = grown(v, x);
-        i += 1;
+        v = grown(v, *x);
     }
     if entries::NUMBERS <= v {
-        return number_with(true, false, 0);
+        return Err(Misread::Large);
     }
     if is_unpadded(piece) {
-        number_with(false, true, v as u8)
+        Ok(v as u8)
     } else {
-        number_with(false, false, 0)
+        Err(Misread::Misspelt)
     }
 }

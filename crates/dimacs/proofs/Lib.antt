@@ -1,6 +1,5 @@
 -- Laws of the file's text; below this file, a folder for each function that has a proof of its own.
-pub mod Joining
-pub mod Shown
-pub mod Lines
 pub mod Parts
+pub mod Shown
+pub mod Texts
 pub mod Unique

@@ -1,77 +1,67 @@
--- The parts of a table that was read, each as a run that is lent.
+-- A table that was read holds its contents: the entries of each part stand at the front of its array, and there are no more of them than it has places. So
+-- the file of these parts is that of the contents.
 -- Assumes nothing.
-use mathlib.Core.Path.{◌≡◌, ap, ◌∙◌}
-use mathlib.Core.List.{List}
-use Prim.Native.Nat.{ℕ, ◌*◌, ◌≤◌, min}
-use native.Mathlib.Omega.{arith}
-use lib.ListN.{length}
-use Rattle.entries.specs.declared.Entry.{Entry}
-use Rattle.entries.specs.Entries.{blank}
+use mathlib.Core.Path.{◌≡◌, refl, sym, subst}
+use mathlib.Core.List.{List, [], ◌∷◌, ◌++◌}
+use Prim.Native.Nat.{ℕ, ◌+◌, ◌*◌, ◌≤◌}
+use lib.ListN.{length, take}
+use lib.Seq.{take-append_seam}
 use Rattle.table.specs.declared.Table.{Table}
-use Rattle.table.specs.declared.Reading.{Reading}
-use Rattle.table.specs.Steps.{row_limit}
-use Rattle.table.specs.Contents.{Contents}
-use Rattle.table.specs.Reading.{padded, table_of, up_to}
-use Rattle.table.proofs.Opening.{Opened}
-use Rattle.table.proofs.Held.{first_padded}
-use Rattle.runs.specs.declared.Part.{Part}
-use Rattle.runs.specs.declared.Part.TheVariants.{Constraints, Rows, Questions}
-use Rattle.runs.specs.Flat.{per_entry, entries_of, limit_of, flat, entries_in}
-use Rattle.runs.proofs.Runs.{Written, front, part_fits, front_length, run_entries}
+use Rattle.std.specs.Prelude.{Result, Ok}
+use Rattle.entries.specs.declared.refusals.Refusal.{Refusal}
+use Rattle.entries.specs.Said.{said}
+use Rattle.table.specs.Steps.{predicate_limit, row_limit, question_limit, constraint_limit}
+use Rattle.table.specs.Contents.{Contents, predicates}
+use Rattle.table.specs.Reading.{reading, tabled, table_of}
+use Rattle.table.proofs.Laws.{limits}
+use Rattle.table.proofs.Opening.{opened}
+use Rattle.clauses.specs.declared.Layout.{Layout}
+use Rattle.clauses.specs.Variables.{false_clause, variables_of, negation_of}
+use Rattle.dimacs.specs.Dimacs.{clauses_in, file_text}
 
--- the entries of a part, and how many a struct counts
-abbrev pub list_in : Part → Contents → List Entry
-list_in Constraints c = c.constraints
-list_in Rows c = c.rows
-list_in Questions c = c.questions
+pub record Holds (t : Table) (c : Contents) : Type 0 where
+  pub constraints : take t.tally.constraints t.constraints ≡ c.constraints
+  pub rows : take t.tally.rows t.rows ≡ c.rows
+  pub questions : take t.tally.questions t.questions ≡ c.questions
+  pub used : t.tally.rows ≡ length c.rows
+  pub asked : t.tally.questions ≡ length c.questions
+  pub most : t.predicates ≡ predicates c
 
-abbrev pub count_in : Part → Table → ℕ
-count_in Constraints t = t.tally.constraints
-count_in Rows t = t.tally.rows
-count_in Questions t = t.tally.questions
+pub record Fits (t : Table) : Type 0 where
+  pub constraints : t.tally.constraints ≤ constraint_limit
+  pub rows : t.tally.rows ≤ row_limit
+  pub questions : t.tally.questions ≤ question_limit
+  pub predicates : t.predicates ≤ predicate_limit
 
-module _ {s : List ℕ} {got : Reading} (o : Opened s got) (part : Part) where
-  abbrev pub count : ℕ
-  count = count_in part got.table
-
-  pub count_is : count ≡ length (list_in part o.contents)
+module _ (s : List ℕ) (r : Result Table Refusal) (t : Table) (e : said r ≡ tabled (reading s)) (read : r ≡ Ok t) where
+  pub holds : Holds t (opened s r t e read).contents
   unfolding table_of
-  count_is = go part
-    where
-      go : (part : Part) → count_in part got.table ≡ length (list_in part o.contents)
-      go Constraints = ap (λ (t : Table). t.tally.constraints) o.table
-      go Rows = ap (λ (t : Table). t.tally.rows) o.table
-      go Questions = ap (λ (t : Table). t.tally.questions) o.table
+  holds =
+      let o = opened s r t e read in
+      subst (λ (t : Table). Holds t o.contents) (sym o.table) (record {
+        constraints = take-append_seam o.contents.constraints _;
+        rows = take-append_seam o.contents.rows _;
+        questions = take-append_seam o.contents.questions _;
+        used = refl;
+        asked = refl;
+        most = refl;
+      })
 
-  shown : entries_of part got.table ≡ padded blank (limit_of part) (list_in part o.contents)
+  pub read_fits : Fits t
   unfolding table_of
-  shown = go part
-    where
-      go : (part : Part) → entries_of part got.table ≡ padded blank (limit_of part) (list_in part o.contents)
-      go Constraints = ap (λ (t : Table). t.constraints) o.table
-      go Rows = ap (λ (t : Table). t.rows) o.table
-      go Questions = ap (λ (t : Table). t.questions) o.table
+  read_fits =
+      let o = opened s r t e read in
+      let fits = limits s o.contents o.is in
+      subst Fits (sym o.table) (record { constraints = fits.0; rows = fits.1; questions = fits.2; predicates = fits.4 })
 
-  pub count_fits : count ≤ limit_of part
-  count_fits = rw count_is (go part)
-    where
-      go : (part : Part) → length (list_in part o.contents) ≤ limit_of part
-      go Constraints = o.whole.constraints_fit
-      go Rows = o.whole.rows_fit
-      go Questions = o.whole.questions_fit
+-- the file of the parts of a table
+abbrev pub lent_file : Table → ℕ → List ℕ
+lent_file t q =
+    let layout : Layout = record { predicates = t.predicates; rows = t.tally.rows } in
+    file_text (t.predicates + 2 * t.tally.rows + t.tally.questions)
+    (clauses_in layout (take t.tally.constraints t.constraints)
+    ++ (clauses_in layout (take t.tally.rows t.rows) ++ (clauses_in layout (take t.tally.questions t.questions) ++ (false_clause layout q ∷ []))))
 
-  pub count_small : count ≤ row_limit
-  count_small = omega (arith, count_fits, part_fits part)
-
-  -- a run of all of it holds its entries, three numbers for each
-  module _ (run : List ℕ) (is : run ≡ padded 0 (per_entry * row_limit) (flat (up_to (entries_of part got.table) (min count (limit_of part))))) where
-    all_written : Written (entries_of part got.table) count (per_entry * row_limit) run
-    all_written = let q : min count (limit_of part) ≡ count = omega (arith, count_fits) in rw q at is
-
-    pub part_long : length (front count run) ≡ per_entry * count
-    part_long = front_length (entries_of part got.table) count (per_entry * row_limit) run all_written (omega (arith, count_small))
-
-    pub part_entries : entries_in (front count run) ≡ list_in part o.contents
-    part_entries =
-        run_entries (entries_of part got.table) count (per_entry * row_limit) run all_written (omega (arith, count_small))
-        ∙ rw (shown, count_is) (first_padded blank (limit_of part) (list_in part o.contents))
+pub lent_is : {t : Table} {c : Contents} → Holds t c → (q : ℕ) → lent_file t q ≡ file_text (variables_of c) (negation_of c q)
+unfolding negation_of
+lent_is h q = rw (h.constraints, h.rows, h.questions, h.used, h.asked, h.most)

@@ -1,61 +1,54 @@
--- A struct lists the literals of the clause that it shows; and each clause of a rule has one to three.
+-- A rule has a clause at each number below their count, and it has the literals that the rule names there.
 -- Assumes nothing.
 use mathlib.Core.Path.{◌≡◌, refl}
 use mathlib.Core.List.{List, [], ◌∷◌}
-use Prim.Native.Nat.{ℕ, zero, suc, ◌≤◌, ◌<◌}
+use Prim.Native.Nat.{ℕ, zero, suc, ◌<◌}
 use native.Mathlib.Omega.{arith}
 use lib.ListN.{length, get_or}
+use Rattle.std.specs.Prelude.{Option, Some}
 use Rattle.clauses.specs.declared.Literal.{Literal}
 use Rattle.clauses.specs.declared.Clause.{Clause}
+use Rattle.clauses.specs.declared.Clause.TheVariants.{One, Two, Three}
 use Rattle.clauses.specs.declared.Rule.{Rule}
 use Rattle.clauses.specs.declared.Rule.TheVariants.{Only, Either, Same, And, AndOr, OrAndOr}
-use Rattle.clauses.specs.Rules.{clauses_of, shown_clause}
-use Rattle.dimacs.specs.Dimacs.{literals_in}
+use Rattle.clauses.specs.Rules.{clauses_of, shown_clause, literals_in}
 
--- it lists these, one to three of them
-pub record Lists (clause : Clause) (literals : List Literal) : Type 0 where
-  pub lists : literals_in clause ≡ literals
-  pub some : 1 ≤ clause.length
-  pub few : clause.length ≤ 3
+abbrev Shown : List Literal → Type 0
+Shown literals = (clause : Clause) × (shown_clause literals ≡ Some clause) × (literals_in clause ≡ literals)
 
-abbrev Short : List Literal → Type 0
-Short literals = (1 ≤ length literals) × (length literals ≤ 3)
+one : (a : Literal) → Shown (a ∷ [])
+one a = (One a, refl, refl)
 
-shown_lists : (literals : List Literal) → Short literals → Lists (shown_clause literals) literals
-shown_lists [] h = absurd (omega (arith, h.0))
-shown_lists (a ∷ []) h = record { lists = refl; some = omega arith; few = omega arith }
-shown_lists (a ∷ b ∷ []) h = record { lists = refl; some = omega arith; few = omega arith }
-shown_lists (a ∷ b ∷ c ∷ []) h = record { lists = refl; some = omega arith; few = omega arith }
-shown_lists (a ∷ b ∷ c ∷ d ∷ more) h = absurd (omega (arith, h.1))
+two : (a b : Literal) → Shown (a ∷ b ∷ [])
+two a b = (Two a b, refl, refl)
 
-pub lists_one : (clause : Clause) (l : Literal) → clause ≡ shown_clause (l ∷ []) → Lists clause (l ∷ [])
-lists_one clause l q = rw q (shown_lists (l ∷ []) (omega arith, omega arith))
+three : (a b c : Literal) → Shown (a ∷ b ∷ c ∷ [])
+three a b c = (Three a b c, refl, refl)
 
-each_short : (rule : Rule) (i : ℕ) → i < length (clauses_of rule) → Short (get_or (clauses_of rule) i [])
-each_short (Only t) zero h = (omega arith, omega arith)
-each_short (Only t) (suc i) h = absurd (omega arith)
-each_short (Either a b) zero h = (omega arith, omega arith)
-each_short (Either a b) (suc i) h = absurd (omega arith)
-each_short (Same t a) zero h = (omega arith, omega arith)
-each_short (Same t a) (suc zero) h = (omega arith, omega arith)
-each_short (Same t a) (suc (suc i)) h = absurd (omega arith)
-each_short (And t a b) zero h = (omega arith, omega arith)
-each_short (And t a b) (suc zero) h = (omega arith, omega arith)
-each_short (And t a b) (suc (suc zero)) h = (omega arith, omega arith)
-each_short (And t a b) (suc (suc (suc i))) h = absurd (omega arith)
-each_short (AndOr t a b c) zero h = (omega arith, omega arith)
-each_short (AndOr t a b c) (suc zero) h = (omega arith, omega arith)
-each_short (AndOr t a b c) (suc (suc zero)) h = (omega arith, omega arith)
-each_short (AndOr t a b c) (suc (suc (suc zero))) h = (omega arith, omega arith)
-each_short (AndOr t a b c) (suc (suc (suc (suc i)))) h = absurd (omega arith)
-each_short (OrAndOr t a b c d) zero h = (omega arith, omega arith)
-each_short (OrAndOr t a b c d) (suc zero) h = (omega arith, omega arith)
-each_short (OrAndOr t a b c d) (suc (suc zero)) h = (omega arith, omega arith)
-each_short (OrAndOr t a b c d) (suc (suc (suc zero))) h = (omega arith, omega arith)
-each_short (OrAndOr t a b c d) (suc (suc (suc (suc zero)))) h = (omega arith, omega arith)
-each_short (OrAndOr t a b c d) (suc (suc (suc (suc (suc zero))))) h = (omega arith, omega arith)
-each_short (OrAndOr t a b c d) (suc (suc (suc (suc (suc (suc i)))))) h = absurd (omega arith)
+-- so of each of some clauses, and of one of them
+abbrev Each : List (List Literal) → Type 0
+Each [] = Unit {0}
+Each (c ∷ cs) = Shown c × Each cs
 
-pub lists_clause : (clause : Clause) (rule : Rule) (i : ℕ) → i < length (clauses_of rule) → clause ≡ shown_clause (get_or (clauses_of rule) i []) →
-    Lists clause (get_or (clauses_of rule) i [])
-lists_clause clause rule i h q = rw q (shown_lists (get_or (clauses_of rule) i []) (each_short rule i h))
+each_at : (cs : List (List Literal)) (i : ℕ) → i < length cs → Each cs → Shown (get_or cs i [])
+each_at [] i h e = absurd (omega arith)
+each_at (c ∷ cs) zero h e = e.0
+each_at (c ∷ cs) (suc i) h e = each_at cs i (omega arith) e.1
+
+all_shown : (rule : Rule) → Each (clauses_of rule)
+all_shown (Only t) = (one _, tt)
+all_shown (Either a b) = (two _ _, tt)
+all_shown (Same t a) = (two _ _, (two _ _, tt))
+all_shown (And t a b) = (two _ _, (two _ _, (three _ _ _, tt)))
+all_shown (AndOr t a b c) = (two _ _, (three _ _ _, (three _ _ _, (three _ _ _, tt))))
+all_shown (OrAndOr t a b c d) = (three _ _ _, (three _ _ _, (three _ _ _, (three _ _ _, (three _ _ _, (three _ _ _, tt))))))
+
+module _ (rule : Rule) (i : ℕ) (h : i < length (clauses_of rule)) where
+  at : Shown (get_or (clauses_of rule) i [])
+  at = each_at (clauses_of rule) i h (all_shown rule)
+
+  pub lists : (clause : Clause) → Some clause ≡ shown_clause (get_or (clauses_of rule) i []) → literals_in clause ≡ get_or (clauses_of rule) i []
+  lists clause q = let same : clause ≡ at.0 = cc (q, at.1) in rw same at.2
+
+  pub not_none : Option.None ≡ shown_clause (get_or (clauses_of rule) i []) → ⊥
+  not_none q = cc (q, at.1)

@@ -3,7 +3,8 @@
 -- Assumes nothing.
 use Rattle.belnap.specs.One.{OneOutput}
 use Rattle.belnap.proofs.Unique.{by_definition}
+use Rattle.entries.proofs.Saying.{by_saying}
 use Rattle.dimacs.proofs.file.Reads as file
 
 pub one_file : OneOutput file.Post (λ κs exit. exit.1.1.0)
-one_file κs args e f a b p q = (by_definition a b p.0 q.0, by_definition _ _ p.1 q.1)
+one_file κs args e f a b p q = (by_saying a b p.0 q.0, by_definition _ _ p.1 q.1)

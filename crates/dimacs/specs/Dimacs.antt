@@ -1,16 +1,15 @@
 -- Clauses as a DIMACS CNF file (02, L7; docs/SOLVERS.md).
-use Rattle.std.specs.Prelude.{ℕ, ◌*◌, ◌≤◌, ◌≡◌, Bool, cond, List, [], ◌∷◌, ◌++◌, length, take, leb}
+use Rattle.std.specs.Prelude.{ℕ, ◌≤◌, ◌≡◌, Bool, cond, List, [], ◌∷◌, ◌++◌, length, leb}
+use Rattle.std.specs.List.{flat_map}
 use Rattle.entries.specs.Refusals.{if_missing}
 use Rattle.entries.specs.Said.{Said, answered, and_then, unless}
 use Rattle.table.specs.Contents.{Contents}
+use Rattle.entries.specs.declared.Entry.{Entry}
 use Rattle.entries.specs.Entries.{number_limit}
-use Rattle.table.specs.Steps.{predicate_limit, row_limit}
-use Rattle.runs.specs.Flat.{per_entry, entries_in}
 use Rattle.decimal.specs.Decimal.{zero_digit, decimal, space, line_feed}
 use Rattle.clauses.specs.declared.Literal.{Literal}
-use Rattle.clauses.specs.declared.Clause.{Clause}
 use Rattle.clauses.specs.declared.Layout.{Layout}
-use Rattle.clauses.specs.Variables.{clauses_from, false_clause, variables_of, negation_of}
+use Rattle.clauses.specs.Variables.{clauses_from, variables_of, negation_of}
 use Rattle.dimacs.specs.declared.Extent.{Extent}
 
 abbrev pub minus : ℕ
@@ -24,13 +23,12 @@ unfoldable pub literal_text : Literal → List ℕ
 literal_text l = sign l.positive ++ (decimal l.variable ++ (space ∷ []))
 
 -- "then a line a clause, numbers separated by single spaces, each ended by ` 0` and a line feed"
-unfoldable pub clause_text : List Literal → List ℕ
+abbrev pub clause_text : List Literal → List ℕ
 clause_text [] = zero_digit ∷ line_feed ∷ []
 clause_text (l ∷ more) = literal_text l ++ clause_text more
 
-unfoldable pub text_of : List (List Literal) → List ℕ
-text_of [] = []
-text_of (clause ∷ more) = clause_text clause ++ text_of more
+abbrev pub text_of : List (List Literal) → List ℕ
+text_of clauses = flat_map clause_text clauses
 
 -- "the line `p cnf V C`"
 abbrev pub opening : List ℕ
@@ -46,27 +44,14 @@ file_text variables clauses = header_text variables (length clauses) ++ text_of 
 unfoldable pub file_of : Said Contents → ℕ → Said (List ℕ)
 file_of x q = and_then x (λ c. unless (if_missing (leb (length c.questions) q)) (answered (file_text (variables_of c) (negation_of c q))))
 
--- the literals that a struct lists
-abbrev pub literals_in : Clause → List Literal
-literals_in clause = take clause.length (clause.a ∷ clause.b ∷ clause.c ∷ [])
-
 -- how many clauses there are, and how many bytes their text has
 abbrev pub Measures : Extent → List (List Literal) → Type 0
 Measures extent clauses = (extent.clauses ≡ length clauses) × (extent.bytes ≡ length (text_of clauses))
 
--- the clauses of the entries that a run holds
-abbrev pub clauses_in : Layout → List ℕ → List (List Literal)
-clauses_in layout run = clauses_from layout 0 (entries_in run)
+-- the clauses of a part's entries
+abbrev pub clauses_in : Layout → List Entry → List (List Literal)
+clauses_in layout entries = clauses_from layout 0 entries
 
--- and those of a table's parts, each lent as a run, with the clause that says that question q is false
-abbrev pub clauses_over : Layout → List ℕ → List ℕ → List ℕ → ℕ → List (List Literal)
-clauses_over layout constraints rows questions q =
-    clauses_in layout constraints ++ (clauses_in layout rows ++ (clauses_in layout questions ++ (false_clause layout q ∷ [])))
-
--- counts that a table can have
-abbrev pub Counted : Layout → Type 0
-Counted layout = (layout.predicates ≤ predicate_limit) × (layout.rows ≤ row_limit)
-
--- a run of no more entries than a byte can number
-abbrev pub Short : List ℕ → Type 0
-Short run = length run ≤ per_entry * number_limit
+-- a part of no more entries than a byte can number
+abbrev pub Short : List Entry → Type 0
+Short entries = length entries ≤ number_limit

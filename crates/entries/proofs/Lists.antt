@@ -1,13 +1,11 @@
 -- Whether some element of a list is so: by its parts, and element by element as a loop looks for one. Whether every one is: by its parts.
 -- Assumes nothing.
 use mathlib.Core.Path.{◌≡◌, refl, ap, ap₂, ◌∙◌}
-use mathlib.Core.Bool.{Bool, true, false, ◌&&◌, ◌||◌, or-false}
+use mathlib.Core.Bool.{Bool, true, false, ◌&&◌, ◌||◌}
 use mathlib.Core.List.{List, [], ◌∷◌, ◌++◌}
-use Prim.Native.Nat.{ℕ, zero, suc, ◌+◌, ◌<◌}
+use Prim.Native.Nat.{ℕ, zero, suc, ◌<◌}
 use native.Mathlib.Omega.{arith}
-use native.Mathlib.Numerals.{add-one}
-use lib.ListN.{length, get_or, take}
-use lib.Seq.{take-suc}
+use lib.ListN.{length, get_or}
 use Rattle.belnap.proofs.Finite.{or_left, or_right, neither}
 use Rattle.entries.specs.Lists.{some, every}
 
@@ -46,13 +44,3 @@ module _ {A : Type 0} (is : A → Bool) where
       assoc : (p q r : Bool) → (p && (q && r)) ≡ ((p && q) && r)
       assoc true q r = refl
       assoc false q r = refl
-
-  -- the first i elements, and the next
-  pub some_more : (l : List A) (d : A) (i : ℕ) → i < length l → some is (take (i + 1) l) ≡ (some is (take i l) || is (get_or l i d))
-  some_more l d i k =
-      let q : take (i + 1) l ≡ take i l ++ (get_or l i d ∷ []) = ap (λ (n : ℕ). take n l) (add-one i) ∙ take-suc l i d k in
-      ap (some is) q ∙ some_append (take i l) (get_or l i d ∷ []) ∙ ap (λ (p : Bool). some is (take i l) || p) (or-false (is (get_or l i d)))
-
-  pub none_more : (l : List A) (d : A) (i : ℕ) → i < length l → some is (take i l) ≡ false → is (get_or l i d) ≡ false →
-      some is (take (i + 1) l) ≡ false
-  none_more l d i k h n = some_more l d i k ∙ ap₂ ◌||◌ h n

@@ -1,9 +1,8 @@
 -- What a call that writes says, and what its lent output holds then (01, "When we say no").
-use Rattle.std.specs.Prelude.{ℕ, ◌≡◌, Bool, cond, List, length, ltb}
-use Rattle.entries.specs.declared.refusals.Output.{Output}
-use Rattle.entries.specs.declared.refusals.Output.TheVariants.{Written, Refused}
+use Rattle.std.specs.Prelude.{ℕ, ◌≡◌, Bool, cond, List, length, ltb, Result}
+use Rattle.entries.specs.declared.refusals.Refusal.{Refusal}
 use Rattle.entries.specs.Refusals.{output_too_short}
-use Rattle.entries.specs.Said.{Said, answered, refusing, and_then, unless}
+use Rattle.entries.specs.Said.{Said, answered, refusing, said, and_then, unless}
 use Rattle.entries.specs.Entries.{onto}
 
 -- 11, "the output is shorter than the bytes to write"; 0 where it is not
@@ -14,15 +13,11 @@ if_short short = cond short output_too_short 0
 unfoldable pub sent : Said (List ℕ) → ℕ → Said ℕ
 sent x room = and_then x (λ bytes. unless (if_short (ltb room (length bytes))) (answered (length bytes)))
 
-unfoldable pub shown_output : Said ℕ → Output
-shown_output (answered n) = Written n
-shown_output (refusing why) = Refused why
-
 -- "bytes behind the last stay"; "a refusal changes no lent byte"
 unfoldable pub output_of : Said (List ℕ) → List ℕ → List ℕ
 output_of (answered bytes) out = onto bytes out
 output_of (refusing why) out = out
 
 -- an answer, and what the output holds, as the call says
-abbrev pub Sends : Said (List ℕ) → List ℕ → Output → List ℕ → Type 0
-Sends x out answer left = (answer ≡ shown_output (sent x (length out))) × (left ≡ output_of x out)
+abbrev pub Sends : Said (List ℕ) → List ℕ → Result ℕ Refusal → List ℕ → Type 0
+Sends x out answer left = (said answer ≡ sent x (length out)) × (left ≡ output_of x out)

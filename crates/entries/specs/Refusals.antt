@@ -1,5 +1,9 @@
 -- The refusals by their numbers (01, "When we say no"; 02, L2, L5 and L6).
-use Rattle.std.specs.Prelude.{ℕ, Bool, cond, List, [], ◌∷◌, eqb}
+use Rattle.std.specs.Prelude.{ℕ, Bool, cond, List, [], ◌∷◌, eqb, Option, Some, None}
+use Rattle.entries.specs.declared.refusals.Reason.{Reason}
+use Rattle.entries.specs.declared.refusals.Reason.TheVariants.{Unlisted, CutShort, PredicateTooHigh, NotToBeNamed, OutOfOrder, TooManyRows}
+use Rattle.entries.specs.declared.refusals.Reason.TheVariants.{TooManyQuestions, NotThere, StillNamed, BadMask, OutputTooShort, UnknownWord, Misspelt}
+use Rattle.entries.specs.declared.refusals.Reason.TheVariants.{TooManyConstraints, IdleSupplier}
 use Rattle.entries.specs.Lists.{some}
 
 -- "kind not listed"
@@ -61,6 +65,29 @@ too_many_constraints = 14
 -- "a 60 that repeats the supplier in force or is not followed by a row's kind byte" (02, L6)
 abbrev pub idle_supplier : ℕ
 idle_supplier = 15
+
+-- the number of each reason
+abbrev pub number_of : Reason → ℕ
+number_of Unlisted = unlisted
+number_of CutShort = cut_short
+number_of PredicateTooHigh = predicate_too_high
+number_of NotToBeNamed = not_to_be_named
+number_of OutOfOrder = out_of_order
+number_of TooManyRows = too_many_rows
+number_of TooManyQuestions = too_many_questions
+number_of NotThere = not_there
+number_of StillNamed = still_named
+number_of BadMask = bad_mask
+number_of OutputTooShort = output_too_short
+number_of UnknownWord = unknown_word
+number_of Misspelt = misspelt
+number_of TooManyConstraints = too_many_constraints
+number_of IdleSupplier = idle_supplier
+
+-- and of a reason that may be missing: 0 where it is
+abbrev pub number_or_none : Option Reason → ℕ
+number_or_none (Some reason) = number_of reason
+number_or_none None = 0
 
 -- 8 where what was asked for is missing; 0 where it is there
 abbrev pub if_missing : Bool → ℕ

@@ -1,6 +1,12 @@
 -- What a call says: its answer, or a refusal with its number and place (01, "When we say no").
-use Rattle.std.specs.Prelude.{ℕ, zero, suc}
-use Rattle.entries.specs.declared.refusals.Refusal.{Refusal}
+use Rattle.std.specs.Prelude.{ℕ, zero, suc, Option, Some, None, Result, Ok, Err}
+use Rattle.entries.specs.declared.refusals.Refusal.{Refusal as Coded}
+use Rattle.entries.specs.Refusals.{number_of}
+
+-- a refusal as 01 gives it: its number and its place
+pub record Refusal : Type 0 where
+  pub number : ℕ
+  pub place : ℕ
 
 pub data Said (A : Type 0) : Type 0 where
   answered : A → Said A
@@ -10,10 +16,23 @@ pub data Said (A : Type 0) : Type 0 where
 abbrev pub refusal : ℕ → ℕ → Refusal
 refusal number place = record { number = number; place = place }
 
+-- what the code's result says: its refusals are 01's by their numbers
+abbrev pub told : Coded → Refusal
+told why = refusal (number_of why.reason) why.place
+
+abbrev pub said : {A : Type 0} → Result A Coded → Said A
+said (Ok v) = answered v
+said (Err why) = refusing (told why)
+
 -- the refusal that is said; its number is 0 where there is none
 abbrev pub why_of : {A : Type 0} → Said A → Refusal
 why_of (answered v) = refusal 0 0
 why_of (refusing why) = why
+
+-- and of the code's refusal, where there is one
+abbrev pub told_or_none : Option Coded → Refusal
+told_or_none None = refusal 0 0
+told_or_none (Some why) = told why
 
 -- what is said of an answer; a refusal is passed on
 abbrev pub and_then : {A B : Type 0} → Said A → (A → Said B) → Said B

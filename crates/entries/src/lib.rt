@@ -3,14 +3,14 @@
 
 pub mod refusals;
 
-ghost use Rattle.std.specs.Prelude.{◌≡◌, cond, ltb, ◌≤◌, ◌<◌, min, max};
+ghost use Rattle.std.specs.Prelude.{◌≡◌, cond, ltb, ◌≤◌, ◌<◌};
 ghost use Rattle.entries.specs.Entries.{number_limit, size_limit, body_size, size_of, used_by, uses, bytes_of, onto};
 ghost use Rattle.entries.specs.Renaming.{names_row};
 
 use kinds::{Form, Kind, Names};
 
 // A row, a question, a constraint or a supplier: its kind, and its numbers; 0 for one that its kind has not.
-#[derive(Clone, Copy)]
+#[derive(Clone, Copy, Debug, PartialEq, Eq)]
 pub struct Entry {
     pub kind: Kind,
     pub a: u8,
@@ -33,41 +33,26 @@ pub fn index(x: u8) -> usize
 pub fn body_size(kind: Kind) -> usize
     ensures { (result ≡ body_size kind) × (result < size_limit) }
 {
-    let form = kinds::form_of(kind);
-    form.numbers
+    kinds::form_of(kind).numbers
 }
 
 // How many bytes an entry has.
+#[tactic(auto, using(crate::proofs::OneEntry::size))]
 pub fn size_of(e: Entry) -> usize
     ensures { (result ≡ size_of e) × (result ≤ size_limit) }
 {
-    let kind = e.kind;
-    body_size(kind) + 1
-}
-
-// The smaller of two numbers, and the larger.
-pub fn fewer(x: usize, y: usize) -> usize
-    ensures { result ≡ min x y }
-{
-    if x < y { x } else { y }
-}
-
-pub fn larger(x: usize, y: usize) -> usize
-    ensures { result ≡ max x y }
-{
-    if x < y { y } else { x }
+    body_size(e.kind) + 1
 }
 
 // One more than the predicate that number i of a body is; 0 if it is not there or names none.
 fn used_at(form: Form, i: usize, x: u8) -> usize
     ensures { (result ≡ cond (ltb i form.numbers) (used_by form.names x) 0) × (result ≤ number_limit) }
 {
-    let names = form.names;
     if form.numbers <= i {
         return 0;
     }
     let predicate = index(x);
-    match names {
+    match form.names {
         Names::Nothing => 0,
         Names::Predicates => predicate + 1,
         Names::Rows => 0,
@@ -80,23 +65,19 @@ fn used_at(form: Form, i: usize, x: u8) -> usize
 pub fn uses_of(e: Entry) -> usize
     ensures { (result ≡ uses e) × (result ≤ number_limit) }
 {
-    let kind = e.kind;
-    let form = kinds::form_of(kind);
-    larger(used_at(form, 0, e.a), used_at(form, 1, e.b))
+    let form = kinds::form_of(e.kind);
+    used_at(form, 0, e.a).max(used_at(form, 1, e.b))
 }
 
 // Whether number i of an entry is there and names a row.
 pub fn names_row(e: Entry, i: usize) -> bool
     ensures { result ≡ names_row i e }
 {
-    let kind = e.kind;
-    let form = kinds::form_of(kind);
-    let names = form.names;
-    let numbers = form.numbers;
-    match names {
+    let form = kinds::form_of(e.kind);
+    match form.names {
         Names::Nothing => false,
         Names::Predicates => false,
-        Names::Rows => i < numbers,
+        Names::Rows => i < form.numbers,
         Names::Questions => false,
         Names::Suppliers => false,
     }
@@ -106,12 +87,10 @@ pub fn names_row(e: Entry, i: usize) -> bool
 pub fn put(out: &mut [u8], e: Entry) -> usize
     ensures { (result ≡ size_of e) × (out.new ≡ onto (bytes_of e) out.old) }
 {
-    let kind = e.kind;
-    let form = kinds::form_of(kind);
+    let form = kinds::form_of(e.kind);
     let numbers = form.numbers;
-    let size = body_size(kind);
-    if out.len() <= size {
-        return size + 1;
+    if out.len() <= numbers {
+        return numbers + 1;
     }
     out[0] = form.byte;
     if 0 < numbers {
@@ -120,5 +99,5 @@ pub fn put(out: &mut [u8], e: Entry) -> usize
     if 1 < numbers {
         out[2] = e.b;
     }
-    size + 1
+    numbers + 1
 }

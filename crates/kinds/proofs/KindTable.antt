@@ -1,13 +1,11 @@
 -- The table of kinds goes both ways: a byte announces a kind exactly if it is that kind's byte. A test that antt computes at all kinds holds at each.
 -- Assumes nothing.
 use mathlib.Core.Path.{◌≡◌, refl, sym}
-use mathlib.Core.Bool.{Bool, true, false, cond, not, ◌&&◌}
+use mathlib.Core.Bool.{Bool, true, false, cond, ◌&&◌}
 use mathlib.Core.List.{List, [], ◌∷◌}
-use Prim.Native.Nat.{ℕ, zero, suc, ◌≤◌, ◌<◌}
-use native.Mathlib.Omega.{arith}
-use lib.Dec.{eqb, leb, ltb}
-use borrow.Author.Tests.{eqb-true, ne_eqb, le-leb, lt-ltb}
-use Rattle.belnap.specs.Decisions.{coded}
+use Prim.Native.Nat.{ℕ}
+use lib.Dec.{eqb}
+use borrow.Author.Tests.{eqb-true}
 use Rattle.belnap.proofs.Finite.{both_parts, never}
 use Rattle.belnap.specs.declared.Decision.TheVariants.{U, D, G, C}
 use Rattle.operators.specs.declared.OneRow.TheVariants.{Negation, Conflation, ClosedDefault, OpenDefault}
@@ -19,15 +17,15 @@ use Rattle.kinds.specs.declared.Kind.TheVariants.{Row, Question, Constraint, Sup
 use Rattle.kinds.specs.declared.RowKind.TheVariants.{Always, DenyIf, GrantIf, One, Two}
 use Rattle.kinds.specs.declared.QuestionKind.TheVariants.{Compare, Not, Both}
 use Rattle.kinds.specs.declared.ConstraintKind.TheVariants.{NeverBoth, OnlyIf}
-use Rattle.kinds.specs.declared.Announced.TheVariants.{Listed, Unlisted}
+use Rattle.std.specs.Prelude.{Some}
 use Rattle.kinds.specs.Kinds.{form_of, kinds, among, kind_of, is_row, is_question, is_constraint, as_row, as_question, as_constraint}
 
 -- the kind among some that passes a test, passes it; and one that is found there has what all of these have
-pub among_passes : (passes : Kind → Bool) (l : List Kind) (kind : Kind) → among passes l ≡ Listed kind → passes kind ≡ true
+pub among_passes : (passes : Kind → Bool) (l : List Kind) (kind : Kind) → among passes l ≡ Some kind → passes kind ≡ true
 among_passes passes [] kind e = never cc
 among_passes passes (x ∷ l) kind e = go (passes x) refl e (among_passes passes l kind)
   where
-    go : (b : Bool) → passes x ≡ b → cond b (Listed x) (among passes l) ≡ Listed kind → (among passes l ≡ Listed kind → passes kind ≡ true) →
+    go : (b : Bool) → passes x ≡ b → cond b (Some x) (among passes l) ≡ Some kind → (among passes l ≡ Some kind → passes kind ≡ true) →
         passes kind ≡ true
     go true q h rest = let same : x ≡ kind = cc in rw same at q
     go false q h rest = rest h
@@ -36,40 +34,23 @@ abbrev pub all : (Kind → Bool) → List Kind → Bool
 all has [] = true
 all has (kind ∷ more) = has kind && all has more
 
-among_has : (passes has : Kind → Bool) (l : List Kind) (kind : Kind) → all has l ≡ true → among passes l ≡ Listed kind → has kind ≡ true
+among_has : (passes has : Kind → Bool) (l : List Kind) (kind : Kind) → all has l ≡ true → among passes l ≡ Some kind → has kind ≡ true
 among_has passes has [] kind h e = never cc
 among_has passes has (x ∷ l) kind h e =
     let parts = both_parts (has x) (all has l) h in
     go (passes x) e parts.0 (among_has passes has l kind parts.1)
   where
-    go : (b : Bool) → cond b (Listed x) (among passes l) ≡ Listed kind → has x ≡ true → (among passes l ≡ Listed kind → has kind ≡ true) →
+    go : (b : Bool) → cond b (Some x) (among passes l) ≡ Some kind → has x ≡ true → (among passes l ≡ Some kind → has kind ≡ true) →
         has kind ≡ true
     go true e h rest = let same : x ≡ kind = cc in rw same at h
     go false e h rest = rest e
 
-pub byte_of_kind : (k : ℕ) (kind : Kind) → kind_of k ≡ Listed kind → (form_of kind).byte ≡ k
+pub byte_of_kind : (k : ℕ) (kind : Kind) → kind_of k ≡ Some kind → (form_of kind).byte ≡ k
 unfolding kind_of
 byte_of_kind k kind e = sym (eqb-true k (form_of kind).byte (among_passes (λ kind. eqb k (form_of kind).byte) kinds kind e))
 
--- a gap in the table: no kind's byte stands from lo up to hi
-abbrev clear : ℕ → ℕ → List Kind → Bool
-clear lo hi [] = true
-clear lo hi (x ∷ l) = not (leb lo (form_of x).byte && ltb (form_of x).byte hi) && clear lo hi l
-
-among_gap : (lo hi : ℕ) (l : List Kind) (k : ℕ) → clear lo hi l ≡ true → lo ≤ k → k < hi → among (λ kind. eqb k
-    (form_of kind).byte) l ≡ Unlisted
-among_gap lo hi [] k c p q = refl
-among_gap lo hi (x ∷ l) k c p q =
-    let h = both_parts (not (leb lo (form_of x).byte && ltb (form_of x).byte hi)) (clear lo hi l) c in
-    let away : k ≡ (form_of x).byte → ⊥ =
-    λ e. never (sym (rw (le-leb lo (form_of x).byte (omega arith), lt-ltb (form_of x).byte hi (omega arith)) at h.0)) in
-    rw (ne_eqb k (form_of x).byte away) (among_gap lo hi l k h.1 p q)
-
-pub gap : (lo hi k : ℕ) → clear lo hi kinds ≡ true → lo ≤ k → k < hi → kind_of k ≡ Unlisted
-unfolding kind_of
-gap lo hi k c p q = among_gap lo hi kinds k c p q
-
-pub kind_of_byte : (kind : Kind) → kind_of (form_of kind).byte ≡ Listed kind
+-- a kind's byte announces that kind
+pub kind_of_byte : (kind : Kind) → kind_of (form_of kind).byte ≡ Some kind
 unfolding kind_of
 kind_of_byte (Row (Always U)) = refl
 kind_of_byte (Row (Always D)) = refl
@@ -103,23 +84,6 @@ kind_of_byte Supplier = refl
 pub each_kind : (has : Kind → Bool) → all has kinds ≡ true → (kind : Kind) → has kind ≡ true
 unfolding kind_of
 each_kind has h kind = among_has (λ other. eqb (form_of kind).byte (form_of other).byte) has kinds kind h (kind_of_byte kind)
-
--- the constants go by their decisions' codes
-pub always_kind : (n : ℕ) → n < 4 → Listed (Row (Always (coded n))) ≡ kind_of n
-unfolding kind_of coded
-always_kind zero h = refl
-always_kind (suc zero) h = refl
-always_kind (suc (suc zero)) h = refl
-always_kind (suc (suc (suc zero))) h = refl
-always_kind (suc (suc (suc (suc n)))) h = absurd (omega arith)
-
--- a number that is none of the first four
-pub past_three : (n : ℕ) → (n ≡ 0 → ⊥) → (n ≡ 1 → ⊥) → (n ≡ 2 → ⊥) → (n ≡ 3 → ⊥) → 4 ≤ n
-past_three zero a b c d = absurd (a refl)
-past_three (suc zero) a b c d = absurd (b refl)
-past_three (suc (suc zero)) a b c d = absurd (c refl)
-past_three (suc (suc (suc zero))) a b c d = absurd (d refl)
-past_three (suc (suc (suc (suc n)))) a b c d = omega arith
 
 -- a row's kind, a question's, and a constraint's
 pub is_row_lem : (kind : Kind) → is_row kind ≡ true → kind ≡ Row (as_row kind)

@@ -1,6 +1,6 @@
 -- Each public call's promise leaves one answer (belnap/specs/One.antt). Stated of the promises themselves, so that one that says less is refused here.
 -- Assumes nothing.
-use Rattle.belnap.specs.One.{One}
+use Rattle.belnap.specs.One.{One, OneContent}
 use Rattle.belnap.proofs.Unique.{by_definition}
 use Rattle.kinds.proofs.kind_of.Reads as kind_of
 use Rattle.kinds.proofs.form_of.Reads as form_of
@@ -8,7 +8,6 @@ use Rattle.kinds.proofs.of_row.Reads as of_row
 use Rattle.kinds.proofs.as_row.Reads as as_row
 use Rattle.kinds.proofs.as_question.Reads as as_question
 use Rattle.kinds.proofs.words.word_of.Reads as word_of
-use Rattle.kinds.proofs.words.letter.Reads as letter
 use Rattle.kinds.proofs.words.kind_of_word.Reads as kind_of_word
 
 pub one_announced : One kind_of.Post
@@ -26,11 +25,8 @@ one_row_kind κs args exit = by_definition
 pub one_question_kind : One as_question.Post
 one_question_kind κs args exit = by_definition
 
-pub one_word : One word_of.Post
-one_word κs args exit = by_definition
-
-pub one_letter : One letter.Post
-one_letter κs args exit = by_definition
+pub one_word : OneContent word_of.Post
+one_word κs args exit a b = by_definition a.now b.now
 
 pub one_spelled : One kind_of_word.Post
 one_spelled κs args exit = by_definition

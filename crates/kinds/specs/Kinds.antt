@@ -1,5 +1,5 @@
 -- The table of kinds (01, "The table, byte by byte"; 02, L5 and L6).
-use Rattle.std.specs.Prelude.{ℕ, Bool, true, false, cond, List, [], ◌∷◌, ◌++◌, map, eqb}
+use Rattle.std.specs.Prelude.{ℕ, Bool, true, false, cond, List, [], ◌∷◌, ◌++◌, map, eqb, Option, Some, None}
 use Rattle.belnap.specs.declared.Decision.TheVariants.{U}
 use Rattle.operators.specs.declared.OneRow.{OneRow}
 use Rattle.operators.specs.declared.OneRow.TheVariants.{Negation, Conflation, ClosedDefault, OpenDefault}
@@ -19,8 +19,6 @@ use Rattle.kinds.specs.declared.ConstraintKind.{ConstraintKind}
 use Rattle.kinds.specs.declared.ConstraintKind.TheVariants.{NeverBoth, OnlyIf}
 use Rattle.kinds.specs.declared.Kind.{Kind}
 use Rattle.kinds.specs.declared.Kind.TheVariants.{Row, Question, Constraint, Supplier}
-use Rattle.kinds.specs.declared.Announced.{Announced}
-use Rattle.kinds.specs.declared.Announced.TheVariants.{Listed, Unlisted}
 use Rattle.kinds.specs.declared.Names.{Names}
 use Rattle.kinds.specs.declared.Names.TheVariants.{Nothing, Predicates, Rows, Questions, Suppliers}
 use Rattle.kinds.specs.declared.Form.{Form}
@@ -80,12 +78,12 @@ abbrev pub kinds : List Kind
 kinds = map Row row_kinds ++ map Question question_kinds ++ map Constraint constraint_kinds ++ Supplier ∷ []
 
 -- the first among these that passes a test
-abbrev pub among : (Kind → Bool) → List Kind → Announced
-among passes [] = Unlisted
-among passes (kind ∷ more) = cond (passes kind) (Listed kind) (among passes more)
+abbrev pub among : (Kind → Bool) → List Kind → Option Kind
+among passes [] = None
+among passes (kind ∷ more) = cond (passes kind) (Some kind) (among passes more)
 
 -- the kind that a byte announces
-unfoldable pub kind_of : ℕ → Announced
+unfoldable pub kind_of : ℕ → Option Kind
 kind_of k = among (λ kind. eqb k (form_of kind).byte) kinds
 
 -- whether a kind is a row's, whether it is a question's, and whether it is a constraint's
@@ -127,6 +125,6 @@ as_constraint (Constraint k) = k
 as_constraint Supplier = OnlyIf
 
 -- whether a byte announces a row's kind
-abbrev pub of_row : Announced → Bool
-of_row (Listed kind) = is_row kind
-of_row Unlisted = false
+abbrev pub of_row : Option Kind → Bool
+of_row (Some kind) = is_row kind
+of_row None = false

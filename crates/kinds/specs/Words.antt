@@ -1,5 +1,5 @@
 -- Each kind's word in the text of a table (02, L2, L5 and L6), and the kind that a word spells.
-use Rattle.std.specs.Prelude.{ℕ, zero, suc, ◌+◌, ◌-◌, ◌*◌, ◌/◌, ◌%◌, ◌^◌, ◌≡◌, Bool, true, false, cond, ◌&&◌, List, [], ◌∷◌, length, drop, eqb, ltb}
+use Rattle.std.specs.Prelude.{ℕ, ◌≡◌, Bool, true, false, ◌&&◌, List, [], ◌∷◌, eqb, Option}
 use Prim.Native.Char.{code}
 use Prim.Native.String.{String, [] as nothing, ◌∷◌ as ◌then◌}
 use Rattle.belnap.specs.declared.Decision.TheVariants.{U, D, G, C}
@@ -12,8 +12,6 @@ use Rattle.kinds.specs.declared.QuestionKind.TheVariants.{Compare, Not, Both}
 use Rattle.kinds.specs.declared.ConstraintKind.TheVariants.{NeverBoth, OnlyIf}
 use Rattle.kinds.specs.declared.Kind.{Kind}
 use Rattle.kinds.specs.declared.Kind.TheVariants.{Row, Question, Constraint, Supplier}
-use Rattle.kinds.specs.declared.Announced.{Announced}
-use Rattle.kinds.specs.declared.words.Word.{Word}
 use Rattle.kinds.specs.Kinds.{form_of, kinds, among}
 
 -- "The team fixes one word for each kind"
@@ -62,31 +60,12 @@ same (x ∷ l) [] = false
 same (x ∷ l) (y ∷ m) = eqb x y && same l m
 
 -- the kind that a word spells
-unfoldable pub kind_spelled : List ℕ → Announced
+unfoldable pub kind_spelled : List ℕ → Option Kind
 kind_spelled w = among (λ kind. same w (word_of kind)) kinds
 
 -- the longest has so many letters
 abbrev pub longest : ℕ
 longest = 21
-
--- a word as three numbers: eight letters to each, two hexadecimal digits to a letter, zeros behind the last; and how many letters there are
-abbrev pub packed : ℕ → List ℕ → ℕ
-packed zero l = 0
-packed (suc n) [] = 0
-packed (suc n) (x ∷ l) = x * 256 ^ n + packed n l
-
-abbrev pub word_with : ℕ → ℕ → ℕ → ℕ → Word
-word_with first second third length = record { first = first; second = second; third = third; length = length }
-
-unfoldable pub shown_word : List ℕ → Word
-shown_word w = word_with (packed 8 w) (packed 8 (drop 8 w)) (packed 8 (drop 16 w)) (length w)
-
--- letter i of it
-abbrev pub chunk_at : Word → ℕ → ℕ
-chunk_at word i = cond (ltb i 8) word.first (cond (ltb i 16) word.second word.third)
-
-abbrev pub letter_at : Word → ℕ → ℕ
-letter_at word i = chunk_at word i / 2 ^ (8 * (7 - i % 8)) % 256
 
 -- the byte of the only kind that a word may spell
 abbrev pub Guesses : List ℕ → ℕ → Type 0

@@ -12,7 +12,7 @@ use belnap::orders::Order;
 use operators::{OneRow, TwoRow};
 
 // The kinds of a row.
-#[derive(Clone, Copy)]
+#[derive(Clone, Copy, Debug, PartialEq, Eq)]
 pub enum RowKind {
     Always(Decision),
     DenyIf,
@@ -22,7 +22,7 @@ pub enum RowKind {
 }
 
 // The kinds of a question.
-#[derive(Clone, Copy)]
+#[derive(Clone, Copy, Debug, PartialEq, Eq)]
 pub enum QuestionKind {
     Compare(Order),
     Not,
@@ -30,14 +30,14 @@ pub enum QuestionKind {
 }
 
 // The kinds of a constraint, which says what no request may bring.
-#[derive(Clone, Copy)]
+#[derive(Clone, Copy, Debug, PartialEq, Eq)]
 pub enum ConstraintKind {
     NeverBoth,
     OnlyIf,
 }
 
 // What an entry is. The last says whose the rows behind it are.
-#[derive(Clone, Copy)]
+#[derive(Clone, Copy, Debug, PartialEq, Eq)]
 pub enum Kind {
     Row(RowKind),
     Question(QuestionKind),
@@ -45,15 +45,8 @@ pub enum Kind {
     Supplier,
 }
 
-// A kind byte is in the list, or it is not.
-#[derive(Clone, Copy)]
-pub enum Announced {
-    Listed(Kind),
-    Unlisted,
-}
-
 // What the numbers of a body name.
-#[derive(Clone, Copy)]
+#[derive(Clone, Copy, Debug, PartialEq, Eq)]
 pub enum Names {
     Nothing,
     Predicates,
@@ -63,111 +56,47 @@ pub enum Names {
 }
 
 // A line of the table of kinds: the byte that announces a kind, how many numbers its body has, and what they name.
-#[derive(Clone, Copy)]
+#[derive(Clone, Copy, Debug, PartialEq, Eq)]
 pub struct Form {
     pub byte: u8,
     pub numbers: usize,
     pub names: Names,
 }
 
-// The kinds go by families, one for each high digit of the byte.
-pub fn kind_of(byte: u8) -> Announced
+// The kind that a byte announces.
+#[tactic(auto, unfolding(crate::specs::Kinds::kind_of))]
+pub fn kind_of(byte: u8) -> Option<Kind>
     ensures { result ≡ kind_of byte }
 {
-    let family = byte / 16;
-    let low = byte % 16;
-    match family {
-        0 => {
-            if low < 4 {
-                return Announced::Listed(Kind::Row(RowKind::Always(belnap::decision_of(low))));
-            }
-            Announced::Unlisted
-        }
-        1 => match low {
-            0 => Announced::Listed(Kind::Row(RowKind::DenyIf)),
-            1 => Announced::Listed(Kind::Row(RowKind::GrantIf)),
-            _ => Announced::Unlisted,
-        },
-        2 => {
-            if low < 4 {
-                return Announced::Listed(Kind::Row(RowKind::One(one_of(low))));
-            }
-            Announced::Unlisted
-        }
-        3 => two_kind(low),
-        4 => match low {
-            0 => Announced::Listed(Kind::Question(QuestionKind::Compare(Order::Truth))),
-            1 => Announced::Listed(Kind::Question(QuestionKind::Compare(Order::Knowledge))),
-            2 => Announced::Listed(Kind::Question(QuestionKind::Not)),
-            3 => Announced::Listed(Kind::Question(QuestionKind::Both)),
-            _ => Announced::Unlisted,
-        },
-        5 => match low {
-            0 => Announced::Listed(Kind::Constraint(ConstraintKind::NeverBoth)),
-            1 => Announced::Listed(Kind::Constraint(ConstraintKind::OnlyIf)),
-            _ => Announced::Unlisted,
-        },
-        6 => match low {
-            0 => Announced::Listed(Kind::Supplier),
-            _ => Announced::Unlisted,
-        },
-        _ => Announced::Unlisted,
-    }
-}
-
-// The family 20: one row.
-fn one_of(low: u8) -> OneRow
-    requires { low < 4 }
-    ensures { kind_of (0x20 + low) ≡ Announced.Listed (Kind.Row (RowKind.One result)) }
-{
-    match low {
-        0 => OneRow::Negation,
-        1 => OneRow::Conflation,
-        2 => OneRow::ClosedDefault,
-        _ => OneRow::OpenDefault,
-    }
-}
-
-// The family 30: two rows. 36 and 37 announce nothing.
-fn two_kind(low: u8) -> Announced
-    requires { low < 16 }
-    ensures { result ≡ kind_of (0x30 + low) }
-{
-    if low < 6 {
-        return Announced::Listed(Kind::Row(RowKind::Two(two_of(low))));
-    }
-    if low < 8 {
-        return Announced::Unlisted;
-    }
-    if low < 12 {
-        return Announced::Listed(Kind::Row(RowKind::Two(override_of(low))));
-    }
-    Announced::Unlisted
-}
-
-fn two_of(low: u8) -> TwoRow
-    requires { low < 6 }
-    ensures { kind_of (0x30 + low) ≡ Announced.Listed (Kind.Row (RowKind.Two result)) }
-{
-    match low {
-        0 => TwoRow::TruthMeet,
-        1 => TwoRow::TruthJoin,
-        2 => TwoRow::KnowledgeMeet,
-        3 => TwoRow::KnowledgeJoin,
-        4 => TwoRow::Implication,
-        _ => TwoRow::Guard,
-    }
-}
-
-fn override_of(low: u8) -> TwoRow
-    requires { (8 ≤ low) × (low < 12) }
-    ensures { kind_of (0x30 + low) ≡ Announced.Listed (Kind.Row (RowKind.Two result)) }
-{
-    match low {
-        8 => TwoRow::OverrideU,
-        9 => TwoRow::OverrideD,
-        10 => TwoRow::OverrideG,
-        _ => TwoRow::OverrideC,
+    match byte {
+        0x00 => Some(Kind::Row(RowKind::Always(Decision::U))),
+        0x01 => Some(Kind::Row(RowKind::Always(Decision::D))),
+        0x02 => Some(Kind::Row(RowKind::Always(Decision::G))),
+        0x03 => Some(Kind::Row(RowKind::Always(Decision::C))),
+        0x10 => Some(Kind::Row(RowKind::DenyIf)),
+        0x11 => Some(Kind::Row(RowKind::GrantIf)),
+        0x20 => Some(Kind::Row(RowKind::One(OneRow::Negation))),
+        0x21 => Some(Kind::Row(RowKind::One(OneRow::Conflation))),
+        0x22 => Some(Kind::Row(RowKind::One(OneRow::ClosedDefault))),
+        0x23 => Some(Kind::Row(RowKind::One(OneRow::OpenDefault))),
+        0x30 => Some(Kind::Row(RowKind::Two(TwoRow::TruthMeet))),
+        0x31 => Some(Kind::Row(RowKind::Two(TwoRow::TruthJoin))),
+        0x32 => Some(Kind::Row(RowKind::Two(TwoRow::KnowledgeMeet))),
+        0x33 => Some(Kind::Row(RowKind::Two(TwoRow::KnowledgeJoin))),
+        0x34 => Some(Kind::Row(RowKind::Two(TwoRow::Implication))),
+        0x35 => Some(Kind::Row(RowKind::Two(TwoRow::Guard))),
+        0x38 => Some(Kind::Row(RowKind::Two(TwoRow::OverrideU))),
+        0x39 => Some(Kind::Row(RowKind::Two(TwoRow::OverrideD))),
+        0x3A => Some(Kind::Row(RowKind::Two(TwoRow::OverrideG))),
+        0x3B => Some(Kind::Row(RowKind::Two(TwoRow::OverrideC))),
+        0x40 => Some(Kind::Question(QuestionKind::Compare(Order::Truth))),
+        0x41 => Some(Kind::Question(QuestionKind::Compare(Order::Knowledge))),
+        0x42 => Some(Kind::Question(QuestionKind::Not)),
+        0x43 => Some(Kind::Question(QuestionKind::Both)),
+        0x50 => Some(Kind::Constraint(ConstraintKind::NeverBoth)),
+        0x51 => Some(Kind::Constraint(ConstraintKind::OnlyIf)),
+        0x60 => Some(Kind::Supplier),
+        _ => None,
     }
 }
 
@@ -253,6 +182,8 @@ fn constraint_form(kind: ConstraintKind) -> Form
     }
 }
 
+// The form of a kind. Reading asks it for each entry, so it stands in place there.
+#[inline(always)]
 pub fn form_of(kind: Kind) -> Form
     ensures { result ≡ form_of kind }
 {
@@ -265,17 +196,17 @@ pub fn form_of(kind: Kind) -> Form
 }
 
 // Whether a byte that is looked at announces a row's kind.
-pub fn of_row(announced: Announced) -> bool
+pub fn of_row(announced: Option<Kind>) -> bool
     ensures { result ≡ of_row announced }
 {
     match announced {
-        Announced::Listed(kind) => match kind {
+        Some(kind) => match kind {
             Kind::Row(_) => true,
             Kind::Question(_) => false,
             Kind::Constraint(_) => false,
             Kind::Supplier => false,
         },
-        Announced::Unlisted => false,
+        None => false,
     }
 }
 

@@ -1,32 +1,33 @@
 -- Where a row's bytes stand in an accepted table.
 -- Assumes nothing.
-use mathlib.Core.Path.{◌≡◌, refl, sym, ap, ap₂, subst, ◌∙◌}
+use mathlib.Core.Path.{◌≡◌, refl, sym, ap, ap₂, ◌∙◌}
 use mathlib.Core.Bool.{Bool, true, false}
 use mathlib.Core.List.{List, [], ◌∷◌, ◌++◌, append_assoc, append-nil}
-use Prim.Native.Nat.{ℕ, suc, ◌+◌, ◌*◌, ◌-◌, ◌≤◌, ◌<◌}
+use Prim.Native.Nat.{ℕ, suc, ◌+◌, ◌*◌, ◌≤◌, ◌<◌}
 use native.Mathlib.Omega.{arith}
 use native.Mathlib.Numerals.{add-one}
-use native.Mathlib.Nat.{add-sub_cancel_left}
 use lib.ListN.{length, get_or, take, drop, length-append}
 use lib.Seq.{split_at, take_at, drop_at, length-take-le}
 use lib.Dec.{leb}
 use borrow.Author.Tests.{leb-false, lt-leb, le-leb}
 use Rattle.belnap.proofs.Finite.{never}
-use Rattle.entries.specs.declared.refusals.Refusal.{Refusal}
+use Rattle.std.specs.Prelude.{Result, Ok, Err}
 use Rattle.entries.specs.declared.Entry.{Entry}
 use Rattle.lookup.specs.declared.Part.{Part}
-use Rattle.lookup.specs.declared.Place.TheVariants.{At, Missing}
 use Rattle.entries.specs.Refusals.{not_there, if_missing}
-use Rattle.entries.specs.Said.{Said, answered, refusing, refusal, unless}
+use Rattle.entries.specs.declared.refusals.Refusal.{Refusal as Coded}
+use Rattle.entries.specs.Said.{Said, answered, refusing, refusal, told, said, unless}
 use Rattle.entries.specs.Entries.{blank, size_of, constraint_size, bytes_of}
 use Rattle.entries.proofs.Saying.{not_both}
-use Rattle.table.specs.Steps.{row_limit}
-use Rattle.table.specs.Suppliers.{no_supplier, change, marked}
+use Rattle.table.specs.Steps.{row_limit, constraint_limit}
+use Rattle.table.specs.Suppliers.{no_supplier, change, marked, last_of}
 use Rattle.table.specs.Contents.{Contents, written}
-use Rattle.table.specs.Reading.{reading, table_of}
-use Rattle.lookup.specs.Lookup.{ending_with, bytes_before, part_of, place_of, shown_place, part_at}
-use Rattle.table.proofs.Padding.{padded_at, padded_front}
-use Rattle.table.proofs.Marking.{marked_append, force_at, marked_to, marked_more}
+use Rattle.table.specs.Reading.{reading, table_of, tabled}
+use Rattle.lookup.specs.Lookup.{ending_with, bytes_before, part_of, place_of, part_at}
+use Rattle.table.specs.declared.Table.{Table}
+use Rattle.table.proofs.Padding.{padded_length, padded_at, padded_front}
+use Rattle.table.proofs.Opening.{opened, turned}
+use Rattle.table.proofs.Marking.{marked_append, force_at, force_more, marked_to, marked_more}
 use Rattle.table.proofs.Writing.{Whole, written_append, written_more, written_parts, of_accepted}
 use Rattle.table.proofs.Laws.{constraint_bytes}
 
@@ -46,6 +47,17 @@ module _ (ss : List ℕ) (es : List Entry) (many : length ss ≡ length es) wher
       let first = marked_to ss es many i in
       let mark = change (force_at ss i) (get_or ss i no_supplier) in
       ap length (written_append first mark) ∙ length-append (written first) (written mark)
+
+-- what a count of these bytes needs, row by row
+pub no_rows : (force : ℕ) → length (written (marked force [] [])) ≡ 0
+unfolding written marked
+no_rows force = refl
+
+pub still_in_force : (force : ℕ) → last_of force [] ≡ force
+unfolding last_of
+still_in_force force = refl
+
+pub ruleset row_bytes = (start_more, bytes_before_lem, force_more, no_rows, still_in_force)
 
 -- so a row starts behind the constraints, the rows before it and a 60 of its own
 pub start_is : (c : Contents) (r : ℕ) → length c.suppliers ≡ length c.rows → r < length c.rows →
@@ -67,16 +79,50 @@ unfolding place_of
 place_missing c r h = rw (le-leb _ _ h)
 
 -- the part, from the struct of an accepted table
-pub found_part : (c : Contents) → Whole c → (r each start n : ℕ) → r < length c.rows → each ≡ constraint_size →
-    start ≡ each * length c.constraints + bytes_before (table_of c).suppliers (table_of c).rows r →
-    n ≡ size_of (get_or (table_of c).rows r blank) → ◌≡◌ {A = Part} (record { start = start; length = n }) (part_of r c)
+found_part : (c : Contents) → Whole c → (r : ℕ) → r < length c.rows → let t = table_of c in
+    part_of r c ≡ record {
+      start = constraint_size * length c.constraints + bytes_before t.suppliers t.rows r;
+      length = size_of (get_or t.rows r blank);
+    }
 unfolding table_of
-found_part c w r each start n h k p q =
+found_part c w r h =
     let front = padded_front blank row_limit c.rows r (omega arith) in
     let before = padded_front no_supplier row_limit c.suppliers r (omega (arith, w.suppliers_fit)) in
     let at = padded_at blank row_limit c.rows r in
     let own = padded_at no_supplier row_limit c.suppliers r in
-    rw (p, k, q, front, before, at, own, start_is c r w.suppliers_fit h, constraint_bytes 0 c.constraints w.constraints_sound)
+    rw (front, before, at, own, start_is c r w.suppliers_fit h, constraint_bytes 0 c.constraints w.constraints_sound)
+
+-- a table that was read: how much it holds, and where its row r stands, by its struct
+pub record Found (s : List ℕ) (t : Table) : Type 0 where
+  pub few : t.tally.rows ≤ row_limit
+  pub bound : t.tally.constraints ≤ constraint_limit
+  pub rows_long : length t.rows ≡ row_limit
+  pub suppliers_long : length t.suppliers ≡ row_limit
+  pub missing : (r : ℕ) → t.tally.rows ≤ r → place_of (reading s) r ≡ refusing (refusal not_there 0)
+  pub there : (r : ℕ) → r < t.tally.rows → place_of (reading s) r ≡ answered (record {
+    start = constraint_size * t.tally.constraints + bytes_before t.suppliers t.rows r;
+    length = size_of (get_or t.rows r blank);
+  })
+
+pub found : (s : List ℕ) (r : Result Table Coded) (t : Table) → said r ≡ tabled (reading s) → r ≡ Ok t → Found s t
+unfolding table_of
+found s r t q e =
+    let o = opened s r t q e in
+    let c = o.contents in
+    rw o.table (record {
+      few = o.whole.rows_fit;
+      bound = o.whole.constraints_fit;
+      rows_long = padded_length blank row_limit c.rows o.whole.rows_fit;
+      suppliers_long = padded_length no_supplier row_limit c.suppliers (omega (arith, o.whole.rows_fit, o.whole.suppliers_fit));
+      missing = λ r h. rw o.is (place_missing c r h);
+      there = λ r h. rw o.is (place_there c r h ∙ ap answered (found_part c o.whole r h));
+    })
+
+-- and one that was refused
+pub not_found : (s : List ℕ) (row : ℕ) (r : Result Table Coded) (why : Coded) → said r ≡ tabled (reading s) → r ≡ Err why →
+    place_of (reading s) row ≡ refusing (told why)
+unfolding place_of
+not_found s row r why q e = rw (turned s r why q e)
 
 -- what a place tells of the reading
 pub place_tells : (x : Said Contents) (r : ℕ) (part : Part) → place_of x r ≡ answered part →
@@ -151,7 +197,6 @@ module _ (s : List ℕ) (c : Contents) (r : ℕ) (q : reading s ≡ answered c) 
   part_fits = omega (arith, starts, ap length around, length-append front (own ++ back), length-append own back)
 
   pub part_own : part_at (answered (part_of r c)) s ≡ own
-  unfolding part_at
   part_own = rw (starts, ← around, drop_at front (own ++ back) (length front) refl, take_at own back (length own) refl)
 
 -- "Asking for row r gives back that entry's own bytes"
@@ -159,27 +204,13 @@ pub own_bytes : (s : List ℕ) (c : Contents) (r : ℕ) → reading s ≡ answer
     part_at (place_of (reading s) r) s ≡ bytes_of (get_or c.rows r blank)
 own_bytes s c r q h = rw (q, place_there c r h) (part_own s c r q h)
 
--- a part that is lent: it lies inside, and holds what the definition says
-pub record Lent (s : List ℕ) (r : ℕ) (part : Part) : Type 0 where
-  pub inside : part.start + part.length ≤ length s
-  pub holds : take (part.start + part.length - part.start) (drop part.start s) ≡ part_at (place_of (reading s) r) s
-
-pub lent : (s : List ℕ) (r : ℕ) (part : Part) → place_of (reading s) r ≡ answered part → Lent s r part
-unfolding part_at
-lent s r part q =
-    let o = place_tells (reading s) r part q in
-    record {
-      inside = subst (λ (p : Part). p.start + p.length ≤ length s) o.3 (part_fits s o.0 r o.1 o.2);
-      holds = rw (q, add-sub_cancel_left part.start part.length);
-    }
-
--- what was said, from the place that shows it
-pub at_part : (x : Said Part) (part : Part) → shown_place x ≡ At part → x ≡ answered part
-unfolding shown_place
-at_part (answered other) part q = cc
-at_part (refusing why) part q = never cc
-
-pub missing_part : (x : Said Part) (why : Refusal) → shown_place x ≡ Missing why → x ≡ refusing why
-unfolding shown_place
-missing_part (answered part) why q = never cc
-missing_part (refusing other) why q = cc
+-- so a part that is found lies inside
+pub inside : (s : List ℕ) (r : ℕ) (part : Part) → answered part ≡ place_of (reading s) r → part.start + part.length ≤ length s
+inside s r part q = go (place_of (reading s) r) refl q
+  where
+    go : (x : Said Part) → place_of (reading s) r ≡ x → answered part ≡ x → part.start + part.length ≤ length s
+    go (refusing why) e q = never cc
+    go (answered other) e q =
+        let o = place_tells (reading s) r other e in
+        let same : part ≡ other = cc in
+        rw (same, ← o.3) (part_fits s o.0 r o.1 o.2)

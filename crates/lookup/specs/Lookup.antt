@@ -2,8 +2,6 @@
 use Rattle.std.specs.Prelude.{ℕ, suc, ◌-◌, List, [], ◌++◌, length, get_or, take, drop, leb}
 use Rattle.entries.specs.declared.Entry.{Entry}
 use Rattle.lookup.specs.declared.Part.{Part}
-use Rattle.lookup.specs.declared.Place.{Place}
-use Rattle.lookup.specs.declared.Place.TheVariants.{At, Missing}
 use Rattle.entries.specs.Refusals.{if_missing}
 use Rattle.entries.specs.Said.{Said, answered, refusing, and_then, unless}
 use Rattle.entries.specs.Entries.{blank, size_of}
@@ -33,16 +31,12 @@ bytes_before ss es r =
 unfoldable pub place_of : Said Contents → ℕ → Said Part
 place_of x r = and_then x (λ c. unless (if_missing (leb (length c.rows) r)) (answered (part_of r c)))
 
-unfoldable pub shown_place : Said Part → Place
-shown_place (answered part) = At part
-shown_place (refusing why) = Missing why
-
 -- where the part at a place starts; 0 where there is none
 abbrev pub start_at : Said Part → ℕ
 start_at (answered part) = part.start
 start_at (refusing why) = 0
 
 -- "Asking for row r gives back that entry's own bytes …; a refusal gives an empty part"
-unfoldable pub part_at : Said Part → List ℕ → List ℕ
+abbrev pub part_at : Said Part → List ℕ → List ℕ
 part_at (answered part) table = take part.length (drop part.start table)
 part_at (refusing why) table = []

@@ -3,95 +3,70 @@
 
 ghost use Rattle.std.specs.Prelude.{◌≡◌, ◌+◌, ◌*◌, ◌≤◌, ◌<◌, length};
 ghost use Rattle.entries.specs.Entries.{size_limit, supplier_size};
-ghost use Rattle.entries.specs.Said.{why_of};
+ghost use Rattle.entries.specs.Said.{said, told_or_none, why_of};
 ghost use Rattle.table.specs.Steps.{row_limit};
 ghost use Rattle.table.specs.Reading.{reading};
-ghost use Rattle.lookup.specs.Lookup.{bytes_before, place_of, shown_place, start_at, part_at};
+ghost use Rattle.lookup.specs.Lookup.{bytes_before, place_of, start_at, part_at};
 
-use entries::refusals;
-use entries::refusals::Refusal;
+use entries::refusals::{Reason, Refusal};
 use kinds::{ConstraintKind, Kind};
-use table::{Outcome, Table, suppliers};
+use table::{Table, suppliers};
 
 // Where a part of a table starts, and how many bytes it has.
-#[derive(Clone, Copy)]
+#[derive(Clone, Copy, Debug, PartialEq, Eq)]
 pub struct Part {
     pub start: usize,
     pub length: usize,
 }
 
-// A row's own part of a table, or a refusal.
-#[derive(Clone, Copy)]
-pub enum Place {
-    At(Part),
-    Missing(Refusal),
-}
-
 // How many bytes the rows before a row have, with their 60s, and its own.
-fn bytes_before(t: Table, row: usize) -> usize
-    requires { (row < row_limit) × (length t.rows ≡ row_limit) × (length t.suppliers ≡ row_limit) }
-    ensures { (result ≡ bytes_before t.suppliers t.rows row) × (result ≤ (size_limit + supplier_size) * row_limit) }
+#[tactic(auto, using(crate::proofs::RowPart::row_bytes))]
+fn bytes_before(t: &Table, row: usize) -> usize
+    requires { (row < row_limit) × (length t.now.rows ≡ row_limit) × (length t.now.suppliers ≡ row_limit) }
+    ensures { (result ≡ bytes_before t.now.suppliers t.now.rows row) × (result ≤ (size_limit + supplier_size) * row_limit) }
 {
     let mut start = 0;
     let mut force = suppliers::NONE;
-    let mut i = 0;
-    while i < row {
-        let e = t.rows[i];
-        let s = t.suppliers[i];
-        start = start + suppliers::change_size(force, s) + entries::size_of(e);
-        force = s;
-        i += 1;
+    for i in 0..row {
+        start += suppliers::change_size(force, t.suppliers[i]) + entries::size_of(t.rows[i]);
+        force = t.suppliers[i];
     }
     start + suppliers::change_size(force, t.suppliers[row])
 }
 
 // Where row `row` of a table stands, from the table's bytes on.
-pub fn find(table: &[u8], row: u32) -> Place
-    ensures { result ≡ shown_place (place_of (reading table.now) row) }
+#[tactic(auto, using(crate::proofs::RowPart::found, crate::proofs::RowPart::not_found))]
+pub fn find(table: &[u8], row: u32) -> Result<Part, Refusal>
+    ensures { said result ≡ place_of (reading table.now) row }
 {
-    let got = table::read(table);
-    let outcome = got.outcome;
-    let Outcome::Read = outcome else {
-        let why = got.why;
-        return Place::Missing(why);
-    };
-    let t = got.table;
+    let t = table::accept(table)?;
     let at = row as usize;
     if t.tally.rows <= at {
-        return Place::Missing(Refusal::of(refusals::NOT_THERE));
+        return Err(Refusal::of(Reason::NotThere));
     }
-    let e = t.rows[at];
     // constraints have one size
     let size = entries::body_size(Kind::Constraint(ConstraintKind::NeverBoth)) + 1;
-    let start = size * t.tally.constraints + bytes_before(t, at);
-    let length = entries::size_of(e);
-    Place::At(Part { start, length })
+    let start = size * t.tally.constraints + bytes_before(&t, at);
+    let length = entries::size_of(t.rows[at]);
+    Ok(Part { start, length })
 }
 
 // The row's own bytes, as a part of the table that starts at the row's kind byte; an empty part where there is none.
+#[tactic(auto, using(crate::proofs::RowPart::inside))]
 pub fn entry(table: &[u8], row: u32) -> &[u8]
     ensures part { result.now ≡ part_at (place_of (reading table.now) row) table.now }
     ensures place { (result.ref_ptr.0 ≡ table.entry.ref_ptr.0) ×
         (result.ref_ptr.1 ≡ table.entry.ref_ptr.1 + start_at (place_of (reading table.now) row)) }
 {
-    let found = find(table, row);
-    match found {
-        Place::At(part) => {
-            let start = part.start;
-            let end = start + part.length;
-            &table[start..end]
-        }
-        Place::Missing(_) => &table[..0],
+    match find(table, row) {
+        Ok(part) => &table[part.start..part.start + part.length],
+        Err(_) => &table[..0],
     }
 }
 
-// Why `entry` on the same table and number gives an empty part; its number is 0 where it does not.
-pub fn entry_refusal(table: &[u8], row: u32) -> Refusal
-    ensures { result ≡ why_of (place_of (reading table.now) row) }
+// Why `entry` on the same table and number gives an empty part; none where it does not.
+pub fn entry_refusal(table: &[u8], row: u32) -> Option<Refusal>
+    ensures { told_or_none result ≡ why_of (place_of (reading table.now) row) }
 {
-    let found = find(table, row);
-    match found {
-        Place::At(_) => Refusal::of(0),
-        Place::Missing(why) => why,
-    }
+    find(table, row).err()
 }

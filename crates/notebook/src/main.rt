@@ -14,97 +14,60 @@ const A: [u8; 22] = [
 // The table of the strike cases.
 const S: [u8; 7] = [0x00, 0x02, 0x20, 0x01, 0x40, 0x01, 0x02];
 
-fn text(rt: &impl Print, bytes: &[u8]) -> io::Result<()> {
-    rt.write_all(bytes)
-}
-
-fn end_line(rt: &impl Print) -> io::Result<()> {
-    text(rt, b"\n")
-}
-
-// What a line is about, and a colon.
-fn case(rt: &impl Print, name: &[u8]) -> io::Result<()> {
-    text(rt, name)?;
-    text(rt, b": ")
-}
-
-// A number behind its name.
-fn field(rt: &impl Print, name: &[u8], n: u64) -> io::Result<()> {
-    text(rt, name)?;
-    print!(rt; "{n}")
-}
-
 fn refused(rt: &impl Print, refusal: u32, place: usize) -> io::Result<()> {
-    field(rt, b"refused ", refusal as u64)?;
-    field(rt, b" at ", place as u64)?;
-    end_line(rt)
+    println!(rt; "refused {refusal} at {place}")
 }
 
 // Reading: how many rows, questions and predicates, or the refusal.
-fn reads(rt: &impl Print, name: &[u8], table: &[u8]) -> io::Result<()> {
-    case(rt, name)?;
+fn reads(rt: &impl Print, name: &str, table: &[u8]) -> io::Result<()> {
+    print!(rt; "{name}: ")?;
     let c = pierstride::pier_read(table);
     if c.refusal != 0 {
         return refused(rt, c.refusal, c.place);
     }
-    field(rt, b"accepted, rows ", c.rows as u64)?;
-    field(rt, b" questions ", c.questions as u64)?;
-    field(rt, b" predicates ", c.predicates as u64)?;
-    end_line(rt)
+    println!(rt;
+        "accepted, rows {} questions {} predicates {}",
+        c.rows, c.questions, c.predicates
+    )
 }
 
 // The set of a row.
 fn sets(
     rt: &impl Print,
-    name: &[u8],
+    name: &str,
     table: &[u8],
     row: u32,
     known: u32,
     request: u32,
 ) -> io::Result<()> {
-    case(rt, name)?;
+    print!(rt; "{name}: ")?;
     let s = pierstride::pier_possible(table, row, known, request);
     if s.refusal != 0 {
         return refused(rt, s.refusal, s.place);
     }
-    field(rt, b"set ", s.set as u64)?;
-    end_line(rt)
-}
-
-fn reply(rt: &impl Print, number: u32, request: u32) -> io::Result<()> {
-    if number == pierstride::HOLDS {
-        text(rt, b"holds")
-    } else if number == pierstride::FAILS {
-        field(rt, b"fails, mask ", request as u64)
-    } else {
-        text(rt, b"unfinished")
-    }
+    println!(rt; "set {}", s.set)
 }
 
 // The verdict on a question.
-fn asks(rt: &impl Print, name: &[u8], table: &[u8], question: u32, budget: u32) -> io::Result<()> {
-    text(rt, name)?;
-    field(rt, b", budget ", budget as u64)?;
-    text(rt, b": ")?;
+fn asks(rt: &impl Print, name: &str, table: &[u8], question: u32, budget: u32) -> io::Result<()> {
+    print!(rt; "{name}, budget {budget}: ")?;
     let v = pierstride::pier_verdict(table, question, budget);
     if v.refusal != 0 {
         return refused(rt, v.refusal, v.place);
     }
-    reply(rt, v.reply, v.request)?;
-    field(rt, b", count ", v.visits as u64)?;
-    end_line(rt)
-}
-
-fn hex(rt: &impl Print, n: u8) -> io::Result<()> {
-    text(rt, b" ")?;
-    print!(rt; "{n:02x}")
+    let visits = v.visits;
+    match v.reply {
+        pierstride::HOLDS => println!(rt; "holds, count {visits}"),
+        pierstride::FAILS => println!(rt; "fails, mask {}, count {visits}", v.request),
+        _ => println!(rt; "unfinished, count {visits}"),
+    }
 }
 
 fn bytes(rt: &impl Print, part: &[u8]) -> io::Result<()> {
     for b in part {
-        hex(rt, *b)?;
+        print!(rt; " {b:02x}")?;
     }
-    Ok(())
+    println!(rt)
 }
 
 // The bytes that a call wrote over the front of an output, or its refusal.
@@ -115,49 +78,40 @@ fn wrote(
     written: usize,
     out: &[u8],
 ) -> io::Result<()> {
-    text(rt, b":")?;
     if refusal != 0 {
-        text(rt, b" ")?;
+        print!(rt; " ")?;
         return refused(rt, refusal, place);
     }
-    for (i, b) in out.iter().enumerate() {
-        if i < written {
-            hex(rt, *b)?;
-        }
+    for b in out.iter().take(written) {
+        print!(rt; " {b:02x}")?;
     }
-    end_line(rt)
+    println!(rt)
 }
 
 // Striking a row.
-fn strikes(rt: &impl Print, name: &[u8], table: &[u8], row: u32) -> io::Result<()> {
-    text(rt, name)?;
-    field(rt, b", strike ", row as u64)?;
+fn strikes(rt: &impl Print, name: &str, table: &[u8], row: u32) -> io::Result<()> {
+    print!(rt; "{name}, strike {row}:")?;
     let mut out = [0u8; 7];
     let struck = pierstride::pier_strike(table, row, &mut out);
     wrote(rt, struck.refusal, struck.place, struck.length, &out)
 }
 
 // The suppliers of the rows that a row reaches.
-fn lists(rt: &impl Print, name: &[u8], table: &[u8], row: u32) -> io::Result<()> {
-    text(rt, name)?;
-    field(rt, b", suppliers of row ", row as u64)?;
+fn lists(rt: &impl Print, name: &str, table: &[u8], row: u32) -> io::Result<()> {
+    print!(rt; "{name}, suppliers of row {row}:")?;
     let mut out = [0u8; 7];
     let listed = pierstride::pier_suppliers(table, row, &mut out);
     wrote(rt, listed.refusal, listed.place, listed.length, &out)
 }
 
 // A row's own bytes, or why there are none.
-fn takes(rt: &impl Print, name: &[u8], table: &[u8], row: u32) -> io::Result<()> {
-    text(rt, name)?;
-    field(rt, b", row ", row as u64)?;
-    text(rt, b":")?;
-    let why = lookup::entry_refusal(table, row);
-    if why.number != 0 {
-        text(rt, b" ")?;
-        return refused(rt, why.number as u32, why.place);
+fn takes(rt: &impl Print, name: &str, table: &[u8], row: u32) -> io::Result<()> {
+    print!(rt; "{name}, row {row}:")?;
+    if let Some(why) = lookup::entry_refusal(table, row) {
+        print!(rt; " ")?;
+        return refused(rt, why.reason.number() as u32, why.place);
     }
-    bytes(rt, lookup::entry(table, row))?;
-    end_line(rt)
+    bytes(rt, lookup::entry(table, row))
 }
 
 // 00 and 65 times 40 00 00.
@@ -166,48 +120,48 @@ fn one_question_more(rt: &impl Print) -> io::Result<()> {
     for i in 0..65 {
         table[3 * i + 1] = 0x40;
     }
-    reads(rt, b"00 and 65 times 40 00 00", &table)
+    reads(rt, "00 and 65 times 40 00 00", &table)
 }
 
 // Table A: what is possible, and the verdict.
 fn table_a(rt: &impl Print, a: &[u8]) -> io::Result<()> {
-    sets(rt, b"A, row 2, predicate 0 known yes", a, 2, 1, 1)?;
-    sets(rt, b"A, row 2, both known yes", a, 2, 3, 3)?;
-    asks(rt, b"A, question 2", a, 2, 4)?;
-    asks(rt, b"A, question 2", a, 2, 5)
+    sets(rt, "A, row 2, predicate 0 known yes", a, 2, 1, 1)?;
+    sets(rt, "A, row 2, both known yes", a, 2, 3, 3)?;
+    asks(rt, "A, question 2", a, 2, 4)?;
+    asks(rt, "A, question 2", a, 2, 5)
 }
 
 fn short_tables(rt: &impl Print) -> io::Result<()> {
-    reads(rt, b"12", b"\x12")?;
-    reads(rt, b"11", b"\x11")?;
-    reads(rt, b"11 17", b"\x11\x17")?;
-    reads(rt, b"11 18", b"\x11\x18")?;
-    reads(rt, b"20 00", b"\x20\x00")?;
-    reads(rt, b"33 00", b"\x33\x00")?;
-    reads(rt, b"00 40 00 00 00", b"\x00\x40\x00\x00\x00")
+    reads(rt, "12", b"\x12")?;
+    reads(rt, "11", b"\x11")?;
+    reads(rt, "11 17", b"\x11\x17")?;
+    reads(rt, "11 18", b"\x11\x18")?;
+    reads(rt, "20 00", b"\x20\x00")?;
+    reads(rt, "33 00", b"\x33\x00")?;
+    reads(rt, "00 40 00 00 00", b"\x00\x40\x00\x00\x00")
 }
 
 fn strike_cases(rt: &impl Print) -> io::Result<()> {
     let s = S;
-    strikes(rt, b"00 02 20 01 40 01 02", &s, 0)?;
-    strikes(rt, b"00 02 20 01 40 01 02", &s, 1)?;
-    strikes(rt, b"00 02 20 01 40 01 02", &s, 3)?;
-    asks(rt, b"00 02 20 01 40 01 02, question 0", &s, 0, 1000000)?;
-    asks(rt, b"00 02 20 01 40 01 02, question 0", &s, 0, 0)
+    strikes(rt, "00 02 20 01 40 01 02", &s, 0)?;
+    strikes(rt, "00 02 20 01 40 01 02", &s, 1)?;
+    strikes(rt, "00 02 20 01 40 01 02", &s, 3)?;
+    asks(rt, "00 02 20 01 40 01 02, question 0", &s, 0, 1000000)?;
+    asks(rt, "00 02 20 01 40 01 02, question 0", &s, 0, 0)
 }
 
 // Two numbers too high, only the second, and one that is there in a body that is cut short.
 fn numbers_too_high(rt: &impl Print) -> io::Result<()> {
-    reads(rt, b"00 30 05 05", b"\x00\x30\x05\x05")?;
-    reads(rt, b"00 30 00 05", b"\x00\x30\x00\x05")?;
-    reads(rt, b"33 05", b"\x33\x05")
+    reads(rt, "00 30 05 05", b"\x00\x30\x05\x05")?;
+    reads(rt, "00 30 00 05", b"\x00\x30\x00\x05")?;
+    reads(rt, "33 05", b"\x33\x05")
 }
 
 // One choice serves both where both numbers are equal, in a row, a comparison and "both"; two rows of the same content are chosen from each for itself.
 fn against_itself(rt: &impl Print) -> io::Result<()> {
     sets(
         rt,
-        b"11 00 34 00 00, row 1, nothing known",
+        "11 00 34 00 00, row 1, nothing known",
         b"\x11\x00\x34\x00\x00",
         1,
         0,
@@ -215,14 +169,14 @@ fn against_itself(rt: &impl Print) -> io::Result<()> {
     )?;
     asks(
         rt,
-        b"11 00 40 00 00, question 0",
+        "11 00 40 00 00, question 0",
         b"\x11\x00\x40\x00\x00",
         0,
         1,
     )?;
     sets(
         rt,
-        b"11 00 11 00 34 00 01, row 2, nothing known",
+        "11 00 11 00 34 00 01, row 2, nothing known",
         b"\x11\x00\x11\x00\x34\x00\x01",
         2,
         0,
@@ -230,14 +184,14 @@ fn against_itself(rt: &impl Print) -> io::Result<()> {
     )?;
     asks(
         rt,
-        b"11 00 11 00 40 00 01, question 0",
+        "11 00 11 00 40 00 01, question 0",
         b"\x11\x00\x11\x00\x40\x00\x01",
         0,
         1,
     )?;
     asks(
         rt,
-        b"11 00 40 00 00 43 00 00, question 1",
+        "11 00 40 00 00 43 00 00, question 1",
         b"\x11\x00\x40\x00\x00\x43\x00\x00",
         1,
         1,
@@ -248,65 +202,65 @@ fn against_itself(rt: &impl Print) -> io::Result<()> {
 fn constrained(rt: &impl Print) -> io::Result<()> {
     asks(
         rt,
-        b"51 00 02 11 00 00 40 00 01, question 0",
+        "51 00 02 11 00 00 40 00 01, question 0",
         b"\x51\x00\x02\x11\x00\x00\x40\x00\x01",
         0,
         6,
     )?;
     asks(
         rt,
-        b"50 00 00 11 00 00 40 00 01, question 0",
+        "50 00 00 11 00 00 40 00 01, question 0",
         b"\x50\x00\x00\x11\x00\x00\x40\x00\x01",
         0,
         3,
     )?;
-    reads(rt, b"00 50 00 01", b"\x00\x50\x00\x01")
+    reads(rt, "00 50 00 01", b"\x00\x50\x00\x01")
 }
 
 // A supplier that no row follows, and one whose row is cut short; 60s that vanish or appear when a row is struck; whose rows a row reaches.
 fn supplied(rt: &impl Print) -> io::Result<()> {
-    reads(rt, b"60 05 40", b"\x60\x05\x40")?;
-    reads(rt, b"60 05 20", b"\x60\x05\x20")?;
+    reads(rt, "60 05 40", b"\x60\x05\x40")?;
+    reads(rt, "60 05 20", b"\x60\x05\x20")?;
     strikes(
         rt,
-        b"00 60 01 00 60 00 00",
+        "00 60 01 00 60 00 00",
         b"\x00\x60\x01\x00\x60\x00\x00",
         1,
     )?;
-    strikes(rt, b"00 60 01 00 00", b"\x00\x60\x01\x00\x00", 1)?;
+    strikes(rt, "00 60 01 00 00", b"\x00\x60\x01\x00\x00", 1)?;
     lists(
         rt,
-        b"60 09 00 60 00 00 60 09 20 00 60 04 20 02",
+        "60 09 00 60 00 00 60 09 20 00 60 04 20 02",
         b"\x60\x09\x00\x60\x00\x00\x60\x09\x20\x00\x60\x04\x20\x02",
         3,
     )
 }
 
 fn rows_taken(rt: &impl Print, a: &[u8]) -> io::Result<()> {
-    takes(rt, b"A", a, 0)?;
-    takes(rt, b"A", a, 2)?;
-    takes(rt, b"A", a, 3)?;
-    takes(rt, b"A", a, 5)?;
-    takes(rt, b"A", a, 6)?;
-    takes(rt, b"00 40 00 00 00", b"\x00\x40\x00\x00\x00", 0)?;
-    takes(rt, b"00 30 00 05", b"\x00\x30\x00\x05", 0)?;
+    takes(rt, "A", a, 0)?;
+    takes(rt, "A", a, 2)?;
+    takes(rt, "A", a, 3)?;
+    takes(rt, "A", a, 5)?;
+    takes(rt, "A", a, 6)?;
+    takes(rt, "00 40 00 00 00", b"\x00\x40\x00\x00\x00", 0)?;
+    takes(rt, "00 30 00 05", b"\x00\x30\x00\x05", 0)?;
     takes(
         rt,
-        b"51 00 02 11 00 00 40 00 01",
+        "51 00 02 11 00 00 40 00 01",
         b"\x51\x00\x02\x11\x00\x00\x40\x00\x01",
         0,
     )?;
-    takes(rt, b"00 60 01 20 00", b"\x00\x60\x01\x20\x00", 1)
+    takes(rt, "00 60 01 20 00", b"\x00\x60\x01\x20\x00", 1)
 }
 
 fn main(rt: HostRuntime) -> io::Result<()> {
     let a = A;
     let zeros = [0u8; 257];
     table_a(&rt, &a)?;
-    reads(&rt, b"empty table", &zeros[..0])?;
+    reads(&rt, "empty table", &zeros[..0])?;
     short_tables(&rt)?;
-    reads(&rt, b"256 bytes of 00", &zeros[..256])?;
-    reads(&rt, b"257 bytes of 00", &zeros)?;
+    reads(&rt, "256 bytes of 00", &zeros[..256])?;
+    reads(&rt, "257 bytes of 00", &zeros)?;
     one_question_more(&rt)?;
     strike_cases(&rt)?;
     numbers_too_high(&rt)?;
@@ -314,5 +268,5 @@ fn main(rt: HostRuntime) -> io::Result<()> {
     constrained(&rt)?;
     supplied(&rt)?;
     rows_taken(&rt, &a)?;
-    takes(&rt, b"empty table", &zeros[..0], 0)
+    takes(&rt, "empty table", &zeros[..0], 0)
 }

@@ -8,7 +8,7 @@ use native.Mathlib.Omega.{arith}
 use lib.ListN.{length}
 use lib.Dec.{leb}
 use borrow.Author.Tests.{leb-false, lt-leb}
-use Rattle.entries.specs.declared.refusals.Refusal.{Refusal}
+use Rattle.entries.specs.Said.{Refusal}
 use Rattle.entries.specs.Said.{Said, answered, refusing, refusal, and_then, unless}
 use Rattle.entries.proofs.Saying.{not_both}
 use Rattle.table.specs.Contents.{Contents, predicates}

@@ -10,7 +10,7 @@ use lib.ListN.{length, get_or, set}
 use lib.Dec.{leb, ltb}
 use borrow.Author.Tests.{lt-leb, le-ltb}
 use Rattle.belnap.proofs.Finite.{never}
-use Rattle.entries.specs.declared.refusals.Refusal.{Refusal}
+use Rattle.entries.specs.Said.{Refusal}
 use Rattle.entries.specs.Refusals.{not_there, bad_mask, output_too_short, if_missing, at_number, is_among}
 use Rattle.entries.specs.Said.{Said, answered, refusing, and_then, unless}
 use Rattle.entries.specs.Entries.{number_limit, onto}

@@ -6,7 +6,6 @@ use Rattle.belnap.specs.Decisions.{code}
 use Rattle.lookup.specs.declared.Part.{Part}
 use Rattle.entries.specs.Refusals.{not_there, bad_mask}
 use Rattle.entries.specs.Said.{Said, answered, refusing, and_then, unless}
-use Rattle.entries.specs.declared.refusals.Output.{Output}
 use Rattle.entries.specs.Output.{sent, output_of}
 use Rattle.table.specs.Contents.{Contents, predicates}
 use Rattle.table.specs.Reading.{reading}
@@ -65,6 +64,10 @@ unfoldable pub says_possible : List ℕ → ℕ → ℕ → ℕ → Said (Set de
 says_possible s r known request =
     and_then (reading s) (λ c. unless (asked_wrongly (leb (length c.rows) r) (bad_masks known request)) (answered (possible c.rows known request r)))
 
+-- the same with the set as its mask
+abbrev pub masked : Said (Set decisions) → Said ℕ
+masked x = and_then x (λ set. answered (mask decisions set))
+
 abbrev pub possible_answer : List ℕ → ℕ → ℕ → ℕ → Remaining
 possible_answer s r known request = remaining_of (says_possible s r known request)
 
@@ -113,10 +116,6 @@ entry_answer s r = located_of (says_entry s r)
 abbrev pub written_of : Said ℕ → Written
 written_of (answered n) = record { refusal = 0; place = 0; length = n }
 written_of (refusing why) = record { refusal = why.number; place = why.place; length = 0 }
-
-abbrev pub written_by : Output → Written
-written_by (Output.Written n) = written_of (answered n)
-written_by (Output.Refused why) = written_of (refusing why)
 
 -- striking
 abbrev pub says_strike : List ℕ → ℕ → List ℕ → Said ℕ

@@ -4,17 +4,18 @@
 
 ghost use Rattle.std.specs.Prelude.{◌≡◌, ◌≤◌, ◌^◌, leb};
 ghost use Rattle.pierstride.specs.Masks.{beyond, known_below, bad_masks};
-ghost use Rattle.entries.specs.Said.{refusing};
+ghost use Rattle.entries.specs.Said.{answered, unless, said};
 ghost use Rattle.table.specs.Steps.{predicate_limit};
-ghost use Rattle.pierstride.specs.Services.{asked_wrongly, counts_of, decided_of, remaining_of, verdict_of, replied_of};
-ghost use Rattle.pierstride.specs.Services.{written_by, to_text_answer, to_text_output, from_text_answer, from_text_output};
+ghost use Rattle.pierstride.specs.Services.{asked_wrongly, written_of, masked};
+ghost use Rattle.pierstride.specs.Services.{says_decide, says_possible, says_verdict, says_breaks};
+ghost use Rattle.pierstride.specs.Services.{to_text_answer, to_text_output, from_text_answer, from_text_output};
 ghost use Rattle.pierstride.specs.Services.{read_answer, decide_answer, possible_answer, verdict_answer, entry_answer, strike_answer, strike_output};
-ghost use Rattle.pierstride.specs.Services.{suppliers_answer, suppliers_output, judged_of, breaks_answer, dimacs_answer, dimacs_output};
+ghost use Rattle.pierstride.specs.Services.{suppliers_answer, suppliers_output, breaks_answer, dimacs_answer, dimacs_output};
 
-use entries::refusals;
-use entries::refusals::{Output, Refusal};
-use lookup::Place;
-use table::{Outcome, Table};
+use belnap::Decision;
+use entries::refusals::{Reason, Refusal};
+use lookup::Part;
+use table::Table;
 use walk::Reply;
 
 // How many rows and questions a table has, and n.
@@ -92,80 +93,25 @@ pub struct Judged {
     pub breaks: u32,
 }
 
-fn no_counts(why: Refusal) -> Counts
-    ensures { result ≡ counts_of (refusing why) }
-{
-    Counts {
-        refusal: why.number as u32,
-        place: why.place,
-        rows: 0,
-        questions: 0,
-        predicates: 0,
-    }
-}
-
-fn no_decision(why: Refusal) -> Decided
-    ensures { result ≡ decided_of (refusing why) }
-{
-    Decided {
-        refusal: why.number as u32,
-        place: why.place,
-        code: 0,
-    }
-}
-
-fn no_set(why: Refusal) -> Remaining
-    ensures { result ≡ remaining_of (refusing why) }
-{
-    Remaining {
-        refusal: why.number as u32,
-        place: why.place,
-        set: 0,
-    }
-}
-
-fn no_verdict(why: Refusal) -> Verdict
-    ensures { result ≡ verdict_of (refusing why) }
-{
-    Verdict {
-        refusal: why.number as u32,
-        place: why.place,
-        reply: 0,
-        request: 0,
-        visits: 0,
-    }
-}
-
-fn no_judgement(why: Refusal) -> Judged
-    ensures { result ≡ judged_of (refusing why) }
-{
-    Judged {
-        refusal: why.number as u32,
-        place: why.place,
-        breaks: 0,
-    }
-}
-
 // The table's rows, questions and n.
 pub fn pier_read(table: &[u8]) -> Counts
     ensures { result ≡ read_answer table.now }
 {
-    let got = table::read(table);
-    let outcome = got.outcome;
-    let Outcome::Read = outcome else {
-        let why = got.why;
-        return no_counts(why);
-    };
-    let t = got.table;
-    let rows = t.tally.rows as u32;
-    let questions = t.tally.questions as u32;
-    let predicates = t.predicates as u32;
-    Counts {
-        refusal: 0,
-        place: 0,
-        rows,
-        questions,
-        predicates,
+    match table::accept(table) {
+        Ok(t) => Counts {
+            refusal: 0,
+            place: 0,
+            rows: t.tally.rows as u32,
+            questions: t.tally.questions as u32,
+            predicates: t.predicates as u32,
+        },
+        Err(why) => Counts {
+            refusal: why.reason.number() as u32,
+            place: why.place,
+            rows: 0,
+            questions: 0,
+            predicates: 0,
+        },
     }
 }
 
@@ -181,55 +127,58 @@ fn mask_beyond(mask: u32) -> bool
     MASKS <= mask
 }
 
-// Why what was asked is not answered: 8 where the row or question is not there, then 10 where the masks are bad; 0 for neither.
-fn asked_wrongly(missing: bool, bad: bool) -> u8
-    ensures { result ≡ asked_wrongly missing bad }
+// What was asked is refused where the row or question is not there, then where the masks are bad.
+fn ask(missing: bool, bad: bool) -> Result<(), Refusal>
+    ensures { said result ≡ unless (asked_wrongly missing bad) (answered tt) }
 {
     if missing {
-        return refusals::NOT_THERE;
+        return Err(Refusal::of(Reason::NotThere));
     }
-    if bad { refusals::BAD_MASK } else { 0 }
+    if bad {
+        return Err(Refusal::of(Reason::BadMask));
+    }
+    Ok(())
 }
 
 // What a row decides at a complete request, given as its yes mask.
 pub fn pier_decide(table: &[u8], row: u32, request: u32) -> Decided
     ensures { result ≡ decide_answer table.now row request }
 {
-    let got = table::read(table);
-    let outcome = got.outcome;
-    let Outcome::Read = outcome else {
-        let why = got.why;
-        return no_decision(why);
-    };
-    let t = got.table;
-    let at = row as usize;
-    let why = asked_wrongly(t.tally.rows <= at, mask_beyond(request));
-    if why != 0 {
-        return no_decision(Refusal::of(why));
+    match decide_row(table, row as usize, request) {
+        Ok(v) => Decided {
+            refusal: 0,
+            place: 0,
+            code: belnap::code_of(v) as u32,
+        },
+        Err(why) => Decided {
+            refusal: why.reason.number() as u32,
+            place: why.place,
+            code: 0,
+        },
     }
-    let v = decide::decide(t, at, request);
-    Decided {
-        refusal: 0,
-        place: 0,
-        code: belnap::code_of(v) as u32,
-    }
+}
+
+fn decide_row(table: &[u8], row: usize, request: u32) -> Result<Decision, Refusal>
+    ensures { said result ≡ says_decide table.now row request }
+{
+    let t = table::accept(table)?;
+    ask(t.tally.rows <= row, mask_beyond(request))?;
+    Ok(decide::decide(t, row, request))
 }
 
 // Whether each predicate that is yes is known.
 fn all_known(known: u32, request: u32) -> bool
     ensures { result ≡ known_below predicate_limit known request }
 {
-    let mut i = 0u8;
-    while i < PREDICATES {
+    for i in 0..PREDICATES {
         if decide::bit_of(request, i) & !decide::bit_of(known, i) {
             return false;
         }
-        i += 1;
     }
     true
 }
 
-// Whether 10 refuses the masks of a request with missing facts.
+// Whether the masks of a request with missing facts are bad.
 fn masks_bad(known: u32, request: u32) -> bool
     ensures { result ≡ bad_masks known request }
 {
@@ -240,72 +189,57 @@ fn masks_bad(known: u32, request: u32) -> bool
 pub fn pier_possible(table: &[u8], row: u32, known: u32, request: u32) -> Remaining
     ensures { result ≡ possible_answer table.now row known request }
 {
-    let got = table::read(table);
-    let outcome = got.outcome;
-    let Outcome::Read = outcome else {
-        let why = got.why;
-        return no_set(why);
-    };
-    let t = got.table;
-    let at = row as usize;
-    let why = asked_wrongly(t.tally.rows <= at, masks_bad(known, request));
-    if why != 0 {
-        return no_set(Refusal::of(why));
-    }
-    let set = possible::possible(t, at, known, request);
-    Remaining {
-        refusal: 0,
-        place: 0,
-        set: set as u32,
+    match possible_of_row(table, row as usize, known, request) {
+        Ok(set) => Remaining {
+            refusal: 0,
+            place: 0,
+            set: set as u32,
+        },
+        Err(why) => Remaining {
+            refusal: why.reason.number() as u32,
+            place: why.place,
+            set: 0,
+        },
     }
 }
 
-// A reply as numbers.
-fn replied(reply: Reply) -> Verdict
-    ensures { result ≡ replied_of reply }
+fn possible_of_row(table: &[u8], row: usize, known: u32, request: u32) -> Result<u8, Refusal>
+    ensures { said result ≡ masked (says_possible table.now row known request) }
 {
-    match reply {
-        Reply::Holds(visits) => Verdict {
-            refusal: 0,
-            place: 0,
-            reply: HOLDS,
-            request: 0,
-            visits,
-        },
-        Reply::Fails(request, visits) => Verdict {
-            refusal: 0,
-            place: 0,
-            reply: FAILS,
-            request,
-            visits,
-        },
-        Reply::Unfinished(visits) => Verdict {
-            refusal: 0,
-            place: 0,
-            reply: UNFINISHED,
-            request: 0,
-            visits,
-        },
-    }
+    let t = table::accept(table)?;
+    ask(t.tally.rows <= row, masks_bad(known, request))?;
+    Ok(possible::possible(t, row, known, request))
 }
 
 // The verdict on a question, within a budget of visits.
 pub fn pier_verdict(table: &[u8], question: u32, budget: u32) -> Verdict
     ensures { result ≡ verdict_answer table.now question budget }
 {
-    let got = table::read(table);
-    let outcome = got.outcome;
-    let Outcome::Read = outcome else {
-        let why = got.why;
-        return no_verdict(why);
+    let (refusal, place, reply, request, visits) = match verdict_on(
+        table,
+        question as usize,
+        budget,
+    ) {
+        Ok(Reply::Holds(visits)) => (0, 0, HOLDS, 0, visits),
+        Ok(Reply::Fails(request, visits)) => (0, 0, FAILS, request, visits),
+        Ok(Reply::Unfinished(visits)) => (0, 0, UNFINISHED, 0, visits),
+        Err(why) => (why.reason.number() as u32, why.place, 0, 0, 0),
     };
-    let t = got.table;
-    let at = question as usize;
-    let why = asked_wrongly(t.tally.questions <= at, false);
-    if why != 0 {
-        return no_verdict(Refusal::of(why));
+    Verdict {
+        refusal,
+        place,
+        reply,
+        request,
+        visits,
     }
-    replied(walk::verdict(t, at, budget))
+}
+
+fn verdict_on(table: &[u8], question: usize, budget: u32) -> Result<Reply, Refusal>
+    ensures { said result ≡ says_verdict table.now question budget }
+{
+    let t = table::accept(table)?;
+    ask(t.tally.questions <= question, false)?;
+    Ok(walk::verdict(t, question, budget))
 }
 
 // Whether a mask has a bit from n up.
@@ -320,41 +254,42 @@ fn mask_from(mask: u32, n: u32) -> bool
 pub fn pier_breaks(table: &[u8], question: u32, request: u32) -> Judged
     ensures { result ≡ breaks_answer table.now question request }
 {
-    let got = table::read(table);
-    let outcome = got.outcome;
-    let Outcome::Read = outcome else {
-        let why = got.why;
-        return no_judgement(why);
-    };
-    let t = got.table;
-    let at = question as usize;
-    let n = t.predicates as u32;
-    let why = asked_wrongly(t.tally.questions <= at, mask_from(request, n));
-    if why != 0 {
-        return no_judgement(Refusal::of(why));
+    match breaks_question(table, question as usize, request) {
+        Ok(broken) => Judged {
+            refusal: 0,
+            place: 0,
+            breaks: broken as u32,
+        },
+        Err(why) => Judged {
+            refusal: why.reason.number() as u32,
+            place: why.place,
+            breaks: 0,
+        },
     }
-    let yes = walk::breaks(t, at, request);
-    Judged {
-        refusal: 0,
-        place: 0,
-        breaks: if yes { 1 } else { 0 },
-    }
+}
+
+fn breaks_question(table: &[u8], question: usize, request: u32) -> Result<bool, Refusal>
+    ensures { said result ≡ says_breaks table.now question request }
+{
+    let t = table::accept(table)?;
+    let bad = mask_from(request, t.predicates as u32);
+    ask(t.tally.questions <= question, bad)?;
+    Ok(walk::breaks(t, question, request))
 }
 
 // Where a row's own bytes stand in the table.
 pub fn pier_entry(table: &[u8], row: u32) -> Located
     ensures { result ≡ entry_answer table.now row }
 {
-    let found = lookup::find(table, row);
-    match found {
-        Place::At(part) => Located {
+    match lookup::find(table, row) {
+        Ok(part) => Located {
             refusal: 0,
             place: 0,
             start: part.start,
             length: part.length,
         },
-        Place::Missing(why) => Located {
-            refusal: why.number as u32,
+        Err(why) => Located {
+            refusal: why.reason.number() as u32,
             place: why.place,
             start: 0,
             length: 0,
@@ -363,17 +298,17 @@ pub fn pier_entry(table: &[u8], row: u32) -> Located
 }
 
 // What a call that writes answers, as numbers.
-fn answer_of(output: Output) -> Written
-    ensures { result ≡ written_by output }
+fn answer_of(output: Result<usize, Refusal>) -> Written
+    ensures { result ≡ written_of (said output) }
 {
     match output {
-        Output::Written(length) => Written {
+        Ok(length) => Written {
             refusal: 0,
             place: 0,
             length,
         },
-        Output::Refused(why) => Written {
-            refusal: why.number as u32,
+        Err(why) => Written {
+            refusal: why.reason.number() as u32,
             place: why.place,
             length: 0,
         },

@@ -11,11 +11,12 @@ ghost use Rattle.possible.specs.Filled.{filled};
 ghost use Rattle.possible.specs.Possible.{fact_set, set_by, set_of, possible_in};
 
 use belnap::Decision;
+use entries::Entry;
 use kinds::RowKind;
-use runs::Part;
 use table::Table;
 
 // The set of a predicate row.
+#[tactic(auto, unfolding(crate::specs::Possible::fact_set))]
 fn fact_set(v: Decision, predicate: u8, known: u32, request: u32) -> u8
     ensures { result ≡ mask decisions (fact_set v predicate known request) }
 {
@@ -31,6 +32,7 @@ fn fact_set(v: Decision, predicate: u8, known: u32, request: u32) -> u8
 }
 
 // The set of a row where the rows that it names have the sets s and t, and `equal` says whether their numbers are equal.
+#[tactic(auto, unfolding(crate::specs::Possible::set_by))]
 fn set_by(kind: RowKind, predicate: u8, equal: bool, known: u32, request: u32, s: u8, t: u8) -> u8
     ensures { result ≡ mask decisions (set_by kind predicate equal known request (of_mask decisions s) (of_mask decisions t)) }
 {
@@ -51,25 +53,19 @@ pub fn mask_at(masks: &[u8], n: u8) -> u8
     if at < masks.len() { masks[at] } else { 1 }
 }
 
-// The sets of the rows of a run, each from those before it, into the front of what is lent, as many as there is room for.
-pub fn fill_sets(rows: &[u8], known: u32, request: u32, sets: &mut [u8])
+// The sets of rows, each from those before it, into the front of what is lent, as many as there is room for.
+pub fn fill_sets(rows: &[Entry], known: u32, request: u32, sets: &mut [u8])
     ensures { sets.new ≡
         filled decisions (set_of known request) (single U) rows.now sets.old }
 {
-    let end = runs::room(rows, sets.len());
-    let mut i = 0;
-    while i < end {
-        let at = runs::PER_ENTRY * i;
-        let kind = kinds::as_row(runs::kind_in(rows[at]));
-        let a = rows[at + 1];
-        let b = rows[at + 2];
+    let end = rows.len().min(sets.len());
+    for (i, e) in rows[..end].iter().enumerate() {
         let done = &sets[..i];
-        let s = mask_at(done, a);
-        let t = mask_at(done, b);
-        let equal = a == b;
-        let v = set_by(kind, a, equal, known, request, s, t);
+        let kind = kinds::as_row(e.kind);
+        let s = mask_at(done, e.a);
+        let t = mask_at(done, e.b);
+        let v = set_by(kind, e.a, e.a == e.b, known, request, s, t);
         sets[i] = v;
-        i += 1;
     }
 }
 
@@ -80,9 +76,7 @@ pub fn possible(t: Table, row: usize, known: u32, request: u32) -> u8
     if Table::ROWS <= row {
         return sets::only(Decision::U);
     }
-    let rows = runs::flat(t, Part::Rows, row + 1);
     let mut sets = [0u8; Table::ROWS];
-    let end = runs::PER_ENTRY * (row + 1);
-    fill_sets(&rows[..end], known, request, &mut sets);
+    fill_sets(&t.rows[..row + 1], known, request, &mut sets);
     sets[row]
 }

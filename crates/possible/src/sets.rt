@@ -1,5 +1,5 @@
 // Sets of decisions as masks in which u counts 1, d 2, g 4, c 8. The high bits of a number that is taken for a mask count nothing.
-ghost use Rattle.std.specs.Prelude.{false, ◌≡◌, ◌*◌, ◌/◌, ◌%◌, ◌^◌};
+ghost use Rattle.std.specs.Prelude.{ℕ, false, ◌≡◌, ◌*◌, ◌/◌, ◌%◌, ◌^◌, get_or};
 ghost use Rattle.operators.specs.Operators.{one, two};
 ghost use Rattle.possible.specs.Sets.{decisions, mask, of_mask, single, either, image_one, image_two};
 
@@ -8,6 +8,7 @@ use belnap::Decision;
 use operators::{OneRow, TwoRow};
 
 // The set of one decision alone.
+#[tactic(auto, unfolding(crate::specs::Sets::mask))]
 pub(crate) fn only(x: Decision) -> u8
     ensures { result ≡ mask decisions (single x) }
 {
@@ -20,6 +21,7 @@ pub(crate) fn only(x: Decision) -> u8
 }
 
 // The set of u and one decision: a predicate row whose predicate is unknown.
+#[tactic(auto, unfolding(crate::specs::Sets::mask))]
 pub(crate) fn perhaps(x: Decision) -> u8
     ensures { result ≡ mask decisions (either (single Decision.U) (single x)) }
 {
@@ -39,62 +41,70 @@ pub fn digit(word: u64, n: u8) -> u8
     ((word >> place) % 16) as u8
 }
 
+// A one-row operator's images as a word: its digit n is the image of the set with mask n.
+fn word_of(op: OneRow) -> u64
+    ensures { (n : ℕ) → result / 2 ^ (4 * (n % 16)) % 16 ≡ mask decisions (image_one (one op) (of_mask decisions n)) }
+{
+    match op {
+        OneRow::Negation => tables::NEGATION,
+        OneRow::Conflation => tables::CONFLATION,
+        OneRow::ClosedDefault => tables::CLOSED_DEFAULT,
+        OneRow::OpenDefault => tables::OPEN_DEFAULT,
+    }
+}
+
 // Every result of a one-row operator over every choice from a set.
 pub(crate) fn image_one(op: OneRow, s: u8) -> u8
     ensures { result ≡ mask decisions (image_one (one op) (of_mask decisions s)) }
 {
+    digit(word_of(op), s)
+}
+
+// A two-row operator's images as sixteen words: digit n of word m is the image of the sets with masks m and n, a choice from each by itself.
+fn table_of(op: TwoRow) -> &'static [u64; 16]
+    ensures { (m n : ℕ) → get_or result.now (m % 16) 0 / 2 ^ (4 * (n % 16)) % 16
+        ≡ mask decisions (image_two (two op) false (of_mask decisions m) (of_mask decisions n)) }
+{
     match op {
-        OneRow::Negation => digit(tables::NEGATION, s),
-        OneRow::Conflation => digit(tables::CONFLATION, s),
-        OneRow::ClosedDefault => digit(tables::CLOSED_DEFAULT, s),
-        OneRow::OpenDefault => digit(tables::OPEN_DEFAULT, s),
+        TwoRow::TruthMeet => &tables::TRUTH_MEET,
+        TwoRow::TruthJoin => &tables::TRUTH_JOIN,
+        TwoRow::KnowledgeMeet => &tables::KNOWLEDGE_MEET,
+        TwoRow::KnowledgeJoin => &tables::KNOWLEDGE_JOIN,
+        TwoRow::Implication => &tables::IMPLICATION,
+        TwoRow::Guard => &tables::GUARD,
+        TwoRow::OverrideU => &tables::OVERRIDE_U,
+        TwoRow::OverrideD => &tables::OVERRIDE_D,
+        TwoRow::OverrideG => &tables::OVERRIDE_G,
+        TwoRow::OverrideC => &tables::OVERRIDE_C,
     }
 }
 
-// Every result of a two-row operator over every choice from two sets, each by itself.
-fn image_apart(op: TwoRow, s: u8, t: u8) -> u8
-    ensures { result ≡ mask decisions (image_two (two op) false (of_mask decisions s) (of_mask decisions t)) }
-{
-    let i = (s % 16) as usize;
-    match op {
-        TwoRow::TruthMeet => digit(tables::TRUTH_MEET[i], t),
-        TwoRow::TruthJoin => digit(tables::TRUTH_JOIN[i], t),
-        TwoRow::KnowledgeMeet => digit(tables::KNOWLEDGE_MEET[i], t),
-        TwoRow::KnowledgeJoin => digit(tables::KNOWLEDGE_JOIN[i], t),
-        TwoRow::Implication => digit(tables::IMPLICATION[i], t),
-        TwoRow::Guard => digit(tables::GUARD[i], t),
-        TwoRow::OverrideU => digit(tables::OVERRIDE_U[i], t),
-        TwoRow::OverrideD => digit(tables::OVERRIDE_D[i], t),
-        TwoRow::OverrideG => digit(tables::OVERRIDE_G[i], t),
-        TwoRow::OverrideC => digit(tables::OVERRIDE_C[i], t),
-    }
-}
-
-// Every result of a two-row operator over every choice from one set, where it serves both operands.
-fn image_itself(op: TwoRow, s: u8) -> u8
-    ensures { result ≡ mask decisions (image_one (λ x. two op x x) (of_mask decisions s)) }
+// A two-row operator's diagonal as a word: its digit n is the image of the set with mask n where one choice serves both operands.
+fn diagonal_of(op: TwoRow) -> u64
+    ensures { (n : ℕ) → result / 2 ^ (4 * (n % 16)) % 16 ≡ mask decisions (image_one (λ x. two op x x) (of_mask decisions n)) }
 {
     match op {
-        TwoRow::TruthMeet => digit(tables::ITSELF, s),
-        TwoRow::TruthJoin => digit(tables::ITSELF, s),
-        TwoRow::KnowledgeMeet => digit(tables::ITSELF, s),
-        TwoRow::KnowledgeJoin => digit(tables::ITSELF, s),
-        TwoRow::Implication => digit(tables::IMPLICATION_OF_ITSELF, s),
-        TwoRow::Guard => digit(tables::GUARD_OF_ITSELF, s),
-        TwoRow::OverrideU => digit(tables::ITSELF, s),
-        TwoRow::OverrideD => digit(tables::ITSELF, s),
-        TwoRow::OverrideG => digit(tables::ITSELF, s),
-        TwoRow::OverrideC => digit(tables::ITSELF, s),
+        TwoRow::Implication => tables::IMPLICATION_OF_ITSELF,
+        TwoRow::Guard => tables::GUARD_OF_ITSELF,
+        TwoRow::TruthMeet
+        | TwoRow::TruthJoin
+        | TwoRow::KnowledgeMeet
+        | TwoRow::KnowledgeJoin
+        | TwoRow::OverrideU
+        | TwoRow::OverrideD
+        | TwoRow::OverrideG
+        | TwoRow::OverrideC => tables::ITSELF,
     }
 }
 
 // Every result of a two-row operator over every choice from the sets of two rows; where their numbers are equal, one choice serves both.
+#[tactic(auto, using(crate::proofs::Images::two_itself))]
 pub(crate) fn image_two(op: TwoRow, equal: bool, s: u8, t: u8) -> u8
     ensures { result ≡ mask decisions (image_two (two op) equal (of_mask decisions s) (of_mask decisions t)) }
 {
     if equal {
-        image_itself(op, t)
+        digit(diagonal_of(op), t)
     } else {
-        image_apart(op, s, t)
+        digit(table_of(op)[usize::from(s % 16)], t)
     }
 }

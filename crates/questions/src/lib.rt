@@ -13,6 +13,7 @@ ghost use Rattle.questions.specs.Questions.{truth_set_by, asks_set};
 ghost use Rattle.questions.specs.Inner.{top_by, top_in, set_at};
 
 use belnap::orders::Order;
+use entries::Entry;
 use kinds::QuestionKind;
 
 // Every outcome of a comparison over every choice from two sets of decisions; where the numbers of both rows are equal, one choice serves both.
@@ -49,6 +50,7 @@ fn both_set(equal: bool, x: u8, y: u8) -> u8
 }
 
 // The set of a question where the rows that it names have the sets s and t, and the questions the sets x and y; `equal` says whether its numbers are equal.
+#[tactic(auto, unfolding(crate::specs::Questions::truth_set_by))]
 fn truth_set_by(kind: QuestionKind, equal: bool, s: u8, t: u8, x: u8, y: u8) -> u8
     ensures { result ≡ mask truths (truth_set_by kind equal (of_mask decisions s) (of_mask decisions t) (of_mask truths x) (of_mask truths y)) }
 {
@@ -59,27 +61,21 @@ fn truth_set_by(kind: QuestionKind, equal: bool, s: u8, t: u8, x: u8, y: u8) -> 
     }
 }
 
-// The sets of the questions of a run, from the sets of the rows, into the front of what is lent, as many as there is room for.
-pub fn fill_truths(questions: &[u8], sets: &[u8], masks: &mut [u8])
+// The sets of questions, from the sets of the rows, into the front of what is lent, as many as there is room for.
+pub fn fill_truths(questions: &[Entry], sets: &[u8], masks: &mut [u8])
     ensures { masks.new ≡
         filled truths (asks_set (set_at sets.now)) (single true) questions.now masks.old }
 {
-    let end = runs::room(questions, masks.len());
-    let mut i = 0;
-    while i < end {
-        let at = runs::PER_ENTRY * i;
-        let kind = kinds::as_question(runs::kind_in(questions[at]));
-        let a = questions[at + 1];
-        let b = questions[at + 2];
+    let end = questions.len().min(masks.len());
+    for (i, e) in questions[..end].iter().enumerate() {
         let done = &masks[..i];
-        let s = possible::mask_at(sets, a);
-        let t = possible::mask_at(sets, b);
-        let x = possible::mask_at(done, a);
-        let y = possible::mask_at(done, b);
-        let equal = a == b;
-        let v = truth_set_by(kind, equal, s, t, x, y);
+        let kind = kinds::as_question(e.kind);
+        let s = possible::mask_at(sets, e.a);
+        let t = possible::mask_at(sets, e.b);
+        let x = possible::mask_at(done, e.a);
+        let y = possible::mask_at(done, e.b);
+        let v = truth_set_by(kind, e.a == e.b, s, t, x, y);
         masks[i] = v;
-        i += 1;
     }
 }
 
@@ -88,35 +84,24 @@ fn top_by(kind: QuestionKind, a: u8, b: u8, x: u16, y: u16) -> u16
     ensures { result ≡ top_by kind a b x y }
 {
     match kind {
-        QuestionKind::Compare(_) => larger(a as u16, b as u16) + 1,
+        QuestionKind::Compare(_) => u16::from(a.max(b)) + 1,
         QuestionKind::Not => x,
-        QuestionKind::Both => larger(x, y),
+        QuestionKind::Both => x.max(y),
     }
 }
 
-fn larger(x: u16, y: u16) -> u16
-    ensures { result ≡ max x y }
-{
-    if x < y { y } else { x }
-}
-
-// How many rows a question of a run looks at: those up to the highest that it reaches. One that the run does not hold looks at none.
-pub fn top_of(questions: &[u8], question: u8) -> usize
+// How many rows one of these questions looks at: those up to the highest that it reaches. One that is not there looks at none.
+pub fn top_of(questions: &[Entry], question: u8) -> usize
     ensures { (result ≡ top_in questions.now question) × (result ≤ number_limit) }
 {
     let mut tops = [0u16; entries::NUMBERS];
-    let end = runs::room(questions, entries::NUMBERS);
-    let mut i = 0;
-    while i < end {
-        let at = runs::PER_ENTRY * i;
-        let kind = kinds::as_question(runs::kind_in(questions[at]));
-        let a = questions[at + 1];
-        let b = questions[at + 2];
-        let x = tops[entries::index(a)];
-        let y = tops[entries::index(b)];
-        let v = top_by(kind, a, b, x, y);
+    let end = questions.len().min(entries::NUMBERS);
+    for (i, e) in questions[..end].iter().enumerate() {
+        let kind = kinds::as_question(e.kind);
+        let x = tops[entries::index(e.a)];
+        let y = tops[entries::index(e.b)];
+        let v = top_by(kind, e.a, e.b, x, y);
         tops[i] = v;
-        i += 1;
     }
-    tops[entries::index(question)] as usize
+    usize::from(tops[entries::index(question)])
 }

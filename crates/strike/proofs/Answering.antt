@@ -1,49 +1,29 @@
--- The promise of striking, from what its code has found out once it has opened a reading.
+-- What `strike` may rest on once it has read a table: by the table's struct, what it has to answer, and what its output has to hold.
 -- Assumes nothing.
 use mathlib.Core.Path.{◌≡◌, refl, sym, ap, ◌∙◌}
-use mathlib.Core.Bool.{Bool, true, false}
+use mathlib.Core.Bool.{true, false}
 use mathlib.Core.List.{List, ◌++◌}
 use Prim.Native.Nat.{ℕ, ◌+◌, ◌≤◌, ◌<◌}
 use native.Mathlib.Omega.{arith}
-use lib.ListN.{length, get_or, drop, length-append}
-use lib.Dec.{ltb}
-use borrow.Author.Tests.{ltb-true, lt-ltb, le-ltb, le-leb, lt-leb}
-use Rattle.entries.specs.declared.refusals.Refusal.{Refusal}
+use lib.ListN.{length, get_or, take, length-append}
+use borrow.Author.Tests.{lt-ltb, le-ltb, le-leb, lt-leb}
 use Rattle.table.specs.declared.Table.{Table}
-use Rattle.table.specs.declared.Reading.{Reading}
+use Rattle.std.specs.Prelude.{Result, Ok, Err}
+use Rattle.entries.specs.declared.refusals.Refusal.{Refusal as Coded}
 use Rattle.entries.specs.Refusals.{not_there, still_named, output_too_short}
-use Rattle.entries.specs.Said.{Said, answered, refusing, refusal}
+use Rattle.entries.specs.Said.{answered, refusing, refusal, told, said}
 use Rattle.entries.specs.Entries.{blank, size_of}
 use Rattle.table.specs.Suppliers.{no_supplier, marked}
 use Rattle.table.specs.Contents.{Contents, last_supplier, written, encoded}
-use Rattle.table.specs.Reading.{reading, table_of, suppliers_in, contents_in, Fits}
+use Rattle.table.specs.Reading.{reading, table_of, tabled, suppliers_in, contents_in, Full}
 use Rattle.table.proofs.Writing.{written_parts, of_accepted}
-use Rattle.table.proofs.Opening.{Opened}
-use Rattle.strike.specs.Strike.{without, struck, struck_bytes, mark_bytes, missing, in_use, too_short, strike_refusal, struck_answer, output_by, struck_output}
+use Rattle.table.proofs.Held.{first_at, table_full, contents_back, rows_count, one_each}
+use Rattle.table.proofs.Opening.{Opened, opened, turned}
+use Rattle.strike.specs.Strike.{without, struck, struck_bytes, mark_bytes, in_use, struck_answer, output_by, struck_output}
 use Rattle.strike.proofs.Closing.{closed_bytes, lowered_bytes}
-use Rattle.strike.proofs.Laws.{struck_each, output_of}
-use Rattle.entries.specs.Output.{shown_output}
-use Rattle.table.proofs.Held.{first_at, table_fits, contents_back, rows_count, one_each}
+use Rattle.strike.proofs.Laws.{struck_each}
 use Rattle.strike.proofs.Marks.{marked_length}
-
--- an answer and an output, as the promise has them
-abbrev pub Answers : List ℕ → ℕ → List ℕ → Said ℕ → List ℕ → Type 0
-Answers s r out a u = (shown_output a ≡ shown_output (struck_answer (reading s) r (length out))) × (u ≡ struck_output (reading s) r out)
-
-answers : (s : List ℕ) (r : ℕ) (out : List ℕ) (c : Contents) (a : Said ℕ) → reading s ≡ answered c →
-    struck_answer (answered c) r (length out) ≡ a → Answers s r out a (output_by a (struck_bytes r c) out)
-answers s r out c a q h = (
-  ap shown_output (sym (ap (λ (x : Said Contents). struck_answer x r (length out)) q ∙ h)),
-  sym (ap (λ (x : Said Contents). struck_output x r out) q ∙ output_of c r out a h),
-)
-
--- a reading that was refused
-pub turned_answers : (s : List ℕ) (r : ℕ) (out : List ℕ) (why : Refusal) → reading s ≡ refusing why → Answers s r out (refusing why) out
-unfolding struck_answer struck_output
-turned_answers s r out why q = (
-  ap shown_output (sym (ap (λ (x : Said Contents). struck_answer x r (length out)) q)),
-  sym (ap (λ (x : Said Contents). struck_output x r out) q),
-)
+use Rattle.strike.proofs.Taken.{contents_taken}
 
 -- how long a table is, part by part
 parts_length : (c : Contents) → c.supplier ≡ last_supplier c → length c.suppliers ≡ length c.rows →
@@ -61,83 +41,82 @@ parts_length c settles many =
       marked_length no_supplier c.suppliers c.rows many,
     )
 
+-- the bytes to write are the table's, by its struct, but for the row's own and the 60s that go with it
+pub struct_left : (t : Table) → Full t → (r marks : ℕ) → r < t.tally.rows →
+    marks + mark_bytes no_supplier (without r (take t.tally.rows t.suppliers)) ≡ mark_bytes no_supplier (take t.tally.rows t.suppliers) →
+    size_of (get_or t.rows r blank) + (marks + length (struck_bytes r (contents_in t))) ≡ length (encoded (contents_in t))
+struct_left t f r marks h gone =
+    let c = contents_in t in
+    let d = struck r c in
+    let u : r < length c.rows = rw (rows_count t) h in
+    let own : size_of (get_or c.rows r blank) ≡ size_of (get_or t.rows r blank) = ap size_of (first_at blank t.rows t.tally.rows r h) in
+    let owners : suppliers_in t ≡ take t.tally.rows t.suppliers = ap (λ (c : Contents). c.suppliers) (contents_taken t f) in
+    omega (
+      arith,
+      rw (← owners) at gone,
+      own,
+      parts_length c refl (one_each t),
+      parts_length d refl (struck_each r c (one_each t) u),
+      closed_bytes r c.rows u,
+      lowered_bytes r c.questions,
+    )
+
 -- a table that was read
-module _ {s : List ℕ} {got : Reading} (o : Opened s got) where
-  pub open_fits : Fits got.table
-  open_fits = rw o.table (table_fits o.contents o.whole)
+pub record Strikes (s : List ℕ) (t : Table) : Type 0 where
+  pub full : Full t
+  pub missing : (r room : ℕ) → t.tally.rows ≤ r → struck_answer (reading s) r room ≡ refusing (refusal not_there 0)
+  pub all : length s ≡ length (encoded (contents_in t))
+  pub named : (r room : ℕ) → r < t.tally.rows → in_use r (contents_in t) ≡ true → struck_answer (reading s) r room ≡ refusing (refusal still_named 0)
+  pub short : (r room : ℕ) → r < t.tally.rows → in_use r (contents_in t) ≡ false → room < length (struck_bytes r (contents_in t)) →
+      struck_answer (reading s) r room ≡ refusing (refusal output_too_short 0)
+  pub fits : (r room : ℕ) → r < t.tally.rows → in_use r (contents_in t) ≡ false → length (struck_bytes r (contents_in t)) ≤ room →
+      struck_answer (reading s) r room ≡ answered (length (struck_bytes r (contents_in t)))
+  pub output : (r : ℕ) (out : List ℕ) →
+      struck_output (reading s) r out ≡ output_by (struck_answer (reading s) r (length out)) (struck_bytes r (contents_in t)) out
 
-  open_contents : contents_in got.table ≡ o.contents
-  open_contents = ap contents_in o.table ∙ contents_back o.contents o.whole
+pub strikes : (s : List ℕ) (r : Result Table Coded) (t : Table) → said r ≡ tabled (reading s) → r ≡ Ok t → Strikes s t
+unfolding table_of struck_answer struck_output
+strikes s r t q e =
+    let o = opened s r t q e in
+    let c = o.contents in
+    let w = o.whole in
+    let back = contents_back c w in
+    let bytes : (r : ℕ) → struck_bytes r (contents_in (table_of c)) ≡ struck_bytes r c = λ r. ap (struck_bytes r) back in
+    rw o.table (record {
+      full = table_full c w;
+      missing = λ r room h. rw (o.is, le-leb (length c.rows) r h);
+      all = sym (ap (λ (c : Contents). length (encoded c)) back ∙ ap length (of_accepted s c o.is).1);
+      named = λ r room h n. rw (o.is, lt-leb (length c.rows) r h, rw back at n);
+      short = λ r room h n l.
+          rw (o.is, lt-leb (length c.rows) r h, rw back at n, lt-ltb room (length (struck_bytes r c)) (omega (arith, l, ap length (bytes r))));
+      fits = λ r room h n l.
+          rw (o.is, lt-leb (length c.rows) r h, rw back at n, le-ltb room (length (struck_bytes r c)) (omega (arith, l, ap length (bytes r))))
+          (ap (λ (b : List ℕ). answered (length b)) (sym (bytes r)));
+      output = λ r out. rw o.is (ap (λ (b : List ℕ). output_by (struck_answer (answered c) r (length out)) b out) (sym (bytes r)));
+    })
 
-  open_used : got.table.tally.rows ≡ length o.contents.rows
-  unfolding table_of
-  open_used = ap (λ (t : Table). t.tally.rows) o.table
+-- so of the bytes that were read
+pub bytes_left : {s : List ℕ} {t : Table} (o : Opened s t) (r : ℕ) → r < t.tally.rows → (marks : ℕ) →
+    marks + mark_bytes no_supplier (without r (suppliers_in t)) ≡ mark_bytes no_supplier (suppliers_in t) →
+    size_of (get_or t.rows r blank) + (marks + length (struck_bytes r (contents_in t))) ≡ length s
+bytes_left {s} {t} o r h marks gone =
+    let c = o.contents in
+    let full : Full t = rw o.table (table_full c o.whole) in
+    let owners : suppliers_in t ≡ take t.tally.rows t.suppliers = ap (λ (c : Contents). c.suppliers) (contents_taken t full) in
+    let held : contents_in t ≡ c = rw o.table (contents_back c o.whole) in
+    struct_left t full r marks h (rw owners at gone)
+    ∙ ap (λ (c : Contents). length (encoded c)) held ∙ ap length (of_accepted s c o.is).1
 
-  pub missing_answers : (r : ℕ) (out : List ℕ) → got.table.tally.rows ≤ r → Answers s r out (refusing (refusal not_there 0)) out
-  unfolding struck_answer
-  missing_answers r out h =
-      let absent : missing r o.contents ≡ true = le-leb (length o.contents.rows) r (rw open_used at h) in
-      answers s r out o.contents (refusing (refusal not_there 0)) o.is (rw absent)
+-- and one that was refused
+pub strikes_none : (s : List ℕ) (row room : ℕ) (r : Result Table Coded) (why : Coded) → said r ≡ tabled (reading s) → r ≡ Err why →
+    struck_answer (reading s) row room ≡ refusing (told why)
+unfolding struck_answer
+strikes_none s row room r why q e = rw (turned s r why q e)
 
-  -- its row r
-  module _ (r : ℕ) (h : r < got.table.tally.rows) where
-    there : missing r o.contents ≡ false
-    there = lt-leb (length o.contents.rows) r (rw open_used at h)
+pub writes_none : (s : List ℕ) (row : ℕ) (out : List ℕ) (r : Result Table Coded) (why : Coded) → said r ≡ tabled (reading s) → r ≡ Err why →
+    struck_output (reading s) row out ≡ out
+unfolding struck_output
+writes_none s row out r why q e = rw (turned s r why q e)
 
-    used : (b : Bool) → in_use r (contents_in got.table) ≡ b → in_use r o.contents ≡ b
-    used b n = sym (ap (in_use r) open_contents) ∙ n
-
-    bytes : struck_bytes r (contents_in got.table) ≡ struck_bytes r o.contents
-    bytes = ap (struck_bytes r) open_contents
-
-    -- the bytes to write are the table's but for the row's own and the 60s that go with it
-    pub bytes_left : (marks : ℕ) →
-        marks + mark_bytes no_supplier (without r (suppliers_in got.table)) ≡ mark_bytes no_supplier (suppliers_in got.table) →
-        size_of (get_or got.table.rows r blank) + (marks + length (struck_bytes r (contents_in got.table))) ≡ length s
-    bytes_left marks gone =
-        let t = got.table in
-        let c = contents_in t in
-        let d = struck r c in
-        let u : r < length c.rows = rw (rows_count t) h in
-        let all : length (encoded c) ≡ length s =
-        ap (λ (c : Contents). length (encoded c)) open_contents ∙ ap length (of_accepted s o.contents o.is).1 in
-        let own : size_of (get_or c.rows r blank) ≡ size_of (get_or t.rows r blank) = ap size_of (first_at blank t.rows t.tally.rows r h) in
-        omega (
-          arith,
-          gone,
-          all,
-          own,
-          parts_length c refl (one_each t),
-          parts_length d refl (struck_each r c (one_each t) u),
-          closed_bytes r c.rows u,
-          lowered_bytes r c.questions,
-        )
-
-    module _ (out : List ℕ) where
-      pub named_answers : in_use r (contents_in got.table) ≡ true → Answers s r out (refusing (refusal still_named 0)) out
-      unfolding struck_answer
-      named_answers n = answers s r out o.contents (refusing (refusal still_named 0)) o.is (rw (there, used true n))
-
-      pub short_answers : in_use r (contents_in got.table) ≡ false → length out < length (struck_bytes r (contents_in got.table)) →
-          Answers s r out (refusing (refusal output_too_short 0)) out
-      unfolding struck_answer
-      short_answers n l =
-          let short : too_short (length out) r o.contents ≡ true = lt-ltb (length out) (length (struck_bytes r o.contents)) (rw bytes at l) in
-          answers s r out o.contents (refusing (refusal output_too_short 0)) o.is (rw (there, used false n, short))
-
-      pub written_answers : in_use r (contents_in got.table) ≡ false → length (struck_bytes r (contents_in got.table)) ≤ length out →
-          (a : ℕ) (u : List ℕ) → (a ≡ length (struck_bytes r (contents_in got.table)))
-          × (u ≡ struck_bytes r (contents_in got.table) ++ drop a out) → Answers s r out (answered a) u
-      unfolding struck_answer
-      written_answers n l a u q =
-          let long : too_short (length out) r o.contents ≡ false = le-ltb (length out) (length (struck_bytes r o.contents)) (rw bytes at l) in
-          let w = answers s r out o.contents (answered a) o.is (rw (there, used false n, long) (ap answered (sym (q.0 ∙ ap length bytes)))) in
-          (w.0, q.1 ∙ ap (λ (b : List ℕ). b ++ drop a out) bytes ∙ w.1)
-
-      -- 9 and 11, from what the code finds: whether the row is named, and whether the output is too short
-      pub stopped_answers : (named short : Bool) (why : ℕ) → named ≡ in_use r (contents_in got.table) →
-          ltb (length out) (length (struck_bytes r (contents_in got.table))) ≡ short →
-          why ≡ strike_refusal named short → (why ≡ 0 → ⊥) → Answers s r out (refusing (refusal why 0)) out
-      stopped_answers true short why n l w h = rw w (named_answers (sym n))
-      stopped_answers false true why n l w h = rw w (short_answers (sym n) (ltb-true _ _ l))
-      stopped_answers false false why n l w h = absurd (h w)
+-- what `strike` is proved from
+pub ruleset striking = (strikes, strikes_none, writes_none)

@@ -10,6 +10,9 @@ use lib.Dec.{eqb}
 use borrow.Author.Tests.{eqb-false, ne_eqb}
 use Rattle.belnap.proofs.Finite.{never, neither}
 use Rattle.kinds.specs.declared.Kind.{Kind}
+use Rattle.std.specs.List.{list_any}
+use Rattle.std.proofs.lemmas.List.Recursion.{same_from_clauses}
+use Rattle.entries.specs.Lists.{some}
 use Rattle.entries.specs.declared.Entry.{Entry}
 use Rattle.table.specs.declared.steps.Tally.{Tally}
 use Rattle.entries.specs.Entries.{blank, size_of, bytes_of}
@@ -96,3 +99,7 @@ unnamed_above before r above e h = ap₂ ◌||◌ (at (names_row 0 e) e.a (first
     at : (there : Bool) (x : ℕ) → (there ≡ true → x < before.rows) → (there && eqb x r) ≡ false
     at true x below = ne_eqb x r (λ q. omega (arith, below refl))
     at false x below = refl
+
+-- some one of a list, as a chain says it
+pub some_any : {A : Type 0} (is : A → Bool) (l : List A) → some is l ≡ list_any is l
+some_any is l = same_from_clauses (some is) (list_any is) (λ x b. is x || b) refl (λ _ _. refl) (λ _ _. refl) l

@@ -3,7 +3,7 @@
 -- Assumes nothing.
 use mathlib.Core.Path.{◌≡◌, refl, sym, ap, ◌∙◌}
 use mathlib.Core.Bool.{false}
-use mathlib.Core.List.{List, map, map-append}
+use mathlib.Core.List.{List}
 use Prim.Native.Nat.{ℕ, suc, ◌+◌, ◌≤◌, ◌<◌}
 use native.Mathlib.Omega.{arith}
 use lib.ListN.{length, get_or, length-append, length-map, get_or-append, get_or-eq_default}
@@ -16,8 +16,8 @@ use Rattle.table.specs.Suppliers.{no_supplier}
 use Rattle.table.specs.Contents.{Contents, predicates, others}
 use Rattle.table.specs.Reading.{reading}
 use Rattle.table.proofs.Writing.{Each, each_get, each_of, Whole, of_accepted, whole_accepted, RowAt, SupplierAt, QuestionAt}
-use Rattle.strike.specs.Strike.{old, lowered, without, closed_up, struck, struck_bytes, names, in_use, struck_answer, output_by, struck_output}
-use Rattle.strike.proofs.Renumbering.{lower_lt, old_above, old_lt, without_at, length_without, without_append}
+use Rattle.strike.specs.Strike.{old, lowered, struck, struck_bytes, names, in_use, struck_answer, output_by, struck_output}
+use Rattle.strike.proofs.Renumbering.{lower_lt, old_above, old_lt, without_at, length_without}
 use Rattle.strike.proofs.Closing.{lowered_sound, closed_at, lowered_at, length_closed, closed_highest}
 use Rattle.strike.proofs.Closing.{unnamed_above}
 use Rattle.entries.proofs.Lists.{none_at, nowhere, none_append}
@@ -47,10 +47,6 @@ struck_supplier_at r c j = without_at r c.suppliers j no_supplier
 pub struck_each : (r : ℕ) (c : Contents) → length c.suppliers ≡ length c.rows → r < length c.rows →
     length (struck r c).suppliers ≡ length (struck r c).rows
 struck_each r c many h = omega (arith, length_without r c.suppliers (rw many h), struck_rows r c h)
-
--- behind the constraints, its entries are the table's, closed up
-pub struck_others : (r : ℕ) (c : Contents) → r < length c.rows → others (struck r c) ≡ closed_up r (others c)
-struck_others r c h = sym (ap (map (lowered r)) (without_append r c.rows c.questions h) ∙ map-append (lowered r) (without r c.rows) c.questions)
 
 -- no row and no question of a table names r
 pub unnamed_row : (r : ℕ) (c : Contents) → in_use r c ≡ false → (i : ℕ) → i < length c.rows → names r (get_or c.rows i blank) ≡ false

@@ -1,6 +1,7 @@
 -- Laws of striking; below this file, a folder for each function that has a proof of its own.
 pub mod Renumbering
 pub mod Closing
+pub mod Taken
 pub mod Laws
 pub mod Telling
 pub mod Marks

@@ -74,8 +74,32 @@ length_without r [] h = absurd (omega arith)
 length_without zero (x ∷ l) h = refl
 length_without (suc r) (x ∷ l) h = ap suc (length_without r l (omega arith))
 
-pub without_append : {A : Type 0} (r : ℕ) (l m : List A) → r < length l → without r (l ++ m) ≡ without r l ++ m
+-- one element more behind a list, which may be the one at r, and some more
+pub without_own : {A : Type 0} (r : ℕ) (l : List A) (x : A) → length l ≡ r → without r (l ++ (x ∷ [])) ≡ without r l
 unfolding without
-without_append r [] m h = absurd (omega arith)
-without_append zero (x ∷ l) m h = refl
-without_append {A} (suc r) (x ∷ l) m h = ap (λ (l : List A). x ∷ l) (without_append r l m (omega arith))
+without_own zero [] x q = refl
+without_own (suc r) [] x q = absurd (omega arith)
+without_own zero (y ∷ l) x q = absurd (omega arith)
+without_own {A} (suc r) (y ∷ l) x q = ap (λ (l : List A). y ∷ l) (without_own r l x (omega arith))
+
+pub without_more : {A : Type 0} (r : ℕ) (l : List A) (x : A) → (length l ≡ r → ⊥) → without r (l ++ (x ∷ [])) ≡ without r l ++ (x ∷ [])
+unfolding without
+without_more zero [] x d = absurd (d refl)
+without_more (suc r) [] x d = refl
+without_more zero (y ∷ l) x d = refl
+without_more {A} (suc r) (y ∷ l) x d = ap (λ (l : List A). y ∷ l) (without_more r l x (λ q. d (ap suc q)))
+
+pub without_front : {A : Type 0} (r : ℕ) (l m : List A) → (rest : List A) × (without r (l ++ m) ≡ without r l ++ rest)
+unfolding without
+without_front r [] m = (without r m, refl)
+without_front zero (y ∷ l) m = (m, refl)
+without_front {A} (suc r) (y ∷ l) m = let h = without_front r l m in (h.0, ap (λ (l : List A). y ∷ l) h.1)
+
+-- lists of one length have one length without it
+pub without_long : {A B : Type 0} (r : ℕ) (l : List A) (m : List B) → length l ≡ length m → length (without r l) ≡ length (without r m)
+unfolding without
+without_long r [] [] q = refl
+without_long r [] (y ∷ m) q = absurd (omega arith)
+without_long r (x ∷ l) [] q = absurd (omega arith)
+without_long zero (x ∷ l) (y ∷ m) q = omega arith
+without_long (suc r) (x ∷ l) (y ∷ m) q = ap suc (without_long r l m (omega arith))

@@ -8,7 +8,7 @@ use native.Mathlib.Omega.{arith}
 use lib.ListN.{length, take, drop}
 use lib.Seq.{take_at, drop_at}
 use borrow.Author.Tests.{leb-false, ltb-false}
-use Rattle.entries.specs.declared.refusals.Refusal.{Refusal}
+use Rattle.entries.specs.Said.{Refusal}
 use Rattle.entries.specs.Refusals.{if_missing}
 use Rattle.entries.specs.Said.{Said, answered, refusing, unless}
 use Rattle.table.specs.Contents.{Contents}

@@ -2,21 +2,33 @@
 -- new numbers, as reach is.
 -- Assumes nothing.
 use mathlib.Core.Path.{◌≡◌, sym, ap, ◌∙◌}
-use mathlib.Core.Bool.{true}
+use mathlib.Core.Bool.{Bool, true}
 use mathlib.Core.List.{List}
 use Prim.Native.Nat.{ℕ, suc, ◌≤◌, ◌<◌}
 use native.Mathlib.Omega.{arith}
 use lib.ListN.{length, get_or}
-use borrow.Author.Tests.{eqb-true, eq-eqb}
+use borrow.Author.Tests.{eqb-true, eq-eqb, lt-leb, le-leb}
 use Rattle.belnap.proofs.Finite.{both_ways}
 use Rattle.entries.specs.declared.Entry.{Entry}
 use Rattle.entries.specs.Refusals.{is_among}
 use Rattle.entries.specs.Entries.{number_limit}
-use Rattle.decide.specs.Reach.{reaches_row, rows_reached, NameLower}
+use Rattle.decide.specs.Reach.{reaches_row, rows_reached, NameLower, passing}
 use Rattle.decide.proofs.Among.{some_in, found_in, passing_in, passing_of}
 use Rattle.decide.proofs.Renaming.{Renames}
-use Rattle.decide.proofs.Reaching.{not_above, reach_kept, reached_kept, reached_new}
-use Rattle.suppliers.specs.Suppliers.{supplier_at, supplies, suppliers_of}
+use Rattle.decide.proofs.Reaching.{as_shown, lower_shown, whole_lower, not_above, reach_kept, reached_kept, reached_new}
+use Rattle.suppliers.specs.Suppliers.{supplier_at, supplies, suppliers_of, list_of, flag, Shows}
+use Rattle.table.specs.declared.Table.{Table}
+use Rattle.std.specs.Prelude.{Result, Ok, Err}
+use Rattle.entries.specs.declared.refusals.Refusal.{Refusal}
+use Rattle.entries.specs.Refusals.{not_there}
+use Rattle.entries.specs.Said.{answered, refusing, refusal, told, said}
+use Rattle.entries.specs.Entries.{blank}
+use Rattle.table.specs.Steps.{row_limit}
+use Rattle.table.specs.Suppliers.{no_supplier}
+use Rattle.table.specs.Reading.{reading, table_of, tabled}
+use Rattle.table.proofs.Padding.{padded_at}
+use Rattle.table.proofs.Opening.{opened, turned}
+use Rattle.entries.proofs.Sending.{sends_none, sends_short, sends_all}
 use Rattle.suppliers.proofs.Listing.{passing_same, rises}
 
 -- a row that is reached, and the supplier that it has
@@ -67,3 +79,39 @@ suppliers_kept {new} {Kept} {rows} {fresh} r suppliers later same i k =
         let kept = (reached_kept r i x k was.1).0 in
         let reached = reach_kept r i x k kept ∙ was.1 in
         supplies_in fresh later (new i) s (new x, reached, was.2 ∙ sym (same x kept)) (reached_new r i (new x) k reached).3
+
+-- a table that was read: what the code may ask of its struct, and the list of its row r, by flags that show the suppliers which the row reaches
+pub record Listed (s : List ℕ) (t : Table) : Type 0 where
+  pub few : t.tally.rows ≤ row_limit
+  pub low : NameLower t.rows
+  pub missing : (r : ℕ) → t.tally.rows ≤ r → list_of (reading s) r ≡ refusing (refusal not_there 0)
+  pub there : (r : ℕ) (flags : List Bool) → r < t.tally.rows → Shows flags (supplies t.rows t.suppliers r) →
+      list_of (reading s) r ≡ answered (passing number_limit (flag flags))
+
+pub listed : (s : List ℕ) (r : Result Table Refusal) (t : Table) → said r ≡ tabled (reading s) → r ≡ Ok t → Listed s t
+unfolding table_of list_of
+listed s r t q e =
+    let o = opened s r t q e in
+    let c = o.contents in
+    let u = table_of c in
+    let low = whole_lower c o.whole in
+    let row : (i : ℕ) → get_or u.rows i blank ≡ get_or c.rows i blank = padded_at blank row_limit c.rows in
+    let owner : (i : ℕ) → get_or u.suppliers i no_supplier ≡ get_or c.suppliers i no_supplier = padded_at no_supplier row_limit c.suppliers in
+    rw o.table (record {
+      few = o.whole.rows_fit;
+      low = lower_shown c.rows low u.rows row;
+      missing = λ r h. rw (o.is, le-leb (length c.rows) r h);
+      there = λ r flags h shows.
+          rw (o.is, lt-leb (length c.rows) r h) (ap answered (sym (
+          passing_same number_limit (flag flags) (supplies u.rows u.suppliers r) (λ i l. shows i)
+          ∙ suppliers_kept (as_shown c.rows low u.rows row) c.suppliers u.suppliers (λ i k. owner i) r tt)));
+    })
+
+-- and one that was refused
+pub not_listed : (s : List ℕ) (row : ℕ) (r : Result Table Refusal) (why : Refusal) → said r ≡ tabled (reading s) → r ≡ Err why →
+    list_of (reading s) row ≡ refusing (told why)
+unfolding list_of
+not_listed s row r why q e = rw (turned s r why q e)
+
+-- what `suppliers` is proved from
+pub ruleset sending = (listed, not_listed, sends_none, sends_short, sends_all)

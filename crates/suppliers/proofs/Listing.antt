@@ -1,19 +1,24 @@
 -- The numbers that pass a test, as loops find them: one more, how many, and where they are written (02, L6).
 -- Assumes nothing.
-use mathlib.Core.Path.{◌≡◌, refl, sym, ap, ap₂, ◌∙◌}
+use mathlib.Core.Path.{◌≡◌, refl, sym, ap, ap₂, subst, ◌∙◌}
 use mathlib.Core.Bool.{Bool, true, false, cond}
 use mathlib.Core.List.{List, [], ◌∷◌, ◌++◌, append_assoc, append-nil}
 use Prim.Native.Nat.{ℕ, zero, suc, ◌+◌, ◌≤◌, ◌<◌}
 use native.Mathlib.Omega.{arith}
 use native.Mathlib.Numerals.{add-one}
-use lib.ListN.{length, get_or, drop, set, length-append, length-drop, get_or-append}
-use lib.Seq.{set_at, drop-cons, get_or_at}
+use lib.ListN.{length, get_or, take, drop, set, length-append, length-drop, get_or-append}
+use lib.Seq.{take-length, set_at, drop-cons, get_or_at}
 use lib.Dec.{eqb}
 use borrow.Author.Tests.{eq-eqb}
 use Rattle.entries.proofs.Lists.{some_at}
 use Rattle.entries.proofs.Numbers.{by_order}
 use Rattle.decide.specs.Reach.{passing}
 use Rattle.decide.proofs.Among.{passing_of}
+use Rattle.suppliers.specs.Suppliers.{flag}
+use Rattle.std.specs.List.{count_by}
+use Rattle.std.proofs.lemmas.Bool.{cases_Bool}
+use Rattle.std.proofs.lemmas.List.Sums.{count_by_more_yes, count_by_more_no}
+use mathlib.Core.Logic.{⊎_elim}
 
 -- tests with the same outcomes pass the same numbers
 pub passing_same : (n : ℕ) (is was : ℕ → Bool) → ((i : ℕ) → i < n → is i ≡ was i) → passing n is ≡ passing n was
@@ -103,3 +108,17 @@ module _ {is : ℕ → Bool} {end s n : ℕ} {out₀ out : List ℕ} (was : Writ
     counted = was.counted ∙ ap length (sym (none_listed is s e));
     written = was.written ∙ ap (λ (l : List ℕ). l ++ drop n out₀) (sym (none_listed is s e));
   }
+
+-- of flags, as many numbers pass as flags are set
+passing_taken : (flags : List Bool) (n : ℕ) → n ≤ length flags → length (passing n (flag flags)) ≡ count_by (λ b. b) (take n flags)
+passing_taken flags zero h = unfold passing in refl
+passing_taken flags (suc n) h =
+    let rest = passing_taken flags n (omega arith) in
+    subst (λ (k : ℕ). length (passing k (flag flags)) ≡ count_by (λ b. b) (take k flags)) (add-one n)
+    (⊎_elim
+    (λ e. one_longer (flag flags) n e ∙ ap (λ (k : ℕ). k + 1) rest ∙ sym (count_by_more_yes (λ b. b) flags n false (omega arith) e))
+    (λ e. ap length (none_listed (flag flags) n e) ∙ rest ∙ sym (count_by_more_no (λ b. b) flags n false (omega arith) e))
+    (cases_Bool (flag flags n)))
+
+pub passing_counted : (flags : List Bool) → length (passing (length flags) (flag flags)) ≡ count_by (λ b. b) flags
+passing_counted flags = passing_taken flags (length flags) (omega arith) ∙ ap (count_by (λ b. b)) (take-length flags)

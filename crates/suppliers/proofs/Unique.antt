@@ -3,7 +3,8 @@
 -- Assumes nothing.
 use Rattle.belnap.specs.One.{OneOutput}
 use Rattle.belnap.proofs.Unique.{by_definition}
+use Rattle.entries.proofs.Saying.{by_saying}
 use Rattle.suppliers.proofs.suppliers.Reads as suppliers
 
 pub one_list : OneOutput suppliers.Post (λ κs exit. exit.1.1.0)
-one_list κs args e f a b p q = (by_definition a b p.0 q.0, by_definition _ _ p.1 q.1)
+one_list κs args e f a b p q = (by_saying a b p.0 q.0, by_definition _ _ p.1 q.1)

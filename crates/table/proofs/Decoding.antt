@@ -13,22 +13,19 @@ use lib.Dec.{ltb}
 use borrow.Author.Tests.{ltb-true, ltb-false, lt-ltb, le-ltb}
 use Rattle.belnap.proofs.Finite.{never}
 use Rattle.kinds.specs.declared.Kind.{Kind}
-use Rattle.kinds.specs.declared.Announced.{Announced}
-use Rattle.kinds.specs.declared.Announced.TheVariants.{Listed, Unlisted}
+use Rattle.std.specs.Prelude.{Option, Some, None}
 use Rattle.entries.specs.declared.Entry.{Entry}
 use Rattle.table.specs.declared.steps.Tally.{Tally}
 use Rattle.table.specs.declared.steps.Decoded.{Decoded}
 use Rattle.table.specs.declared.steps.Decoded.TheVariants.{Unknown, Cut, Full}
-use Rattle.table.specs.declared.steps.Step.TheVariants.{Took, Bad}
-use Rattle.table.specs.declared.steps.Entered.TheVariants.{In, Out}
-use Rattle.entries.specs.declared.refusals.Refusal.{Refusal}
+use Rattle.entries.specs.Said.{Refusal}
 use Rattle.entries.specs.Refusals.{unlisted, cut_short, idle_supplier, at_kind_byte, is_among}
 use Rattle.entries.specs.Said.{Said, answered, refusing, refusal}
 use Rattle.kinds.specs.Kinds.{kind_of, form_of}
 use Rattle.entries.specs.Entries.{numbers_of, names_of}
 use Rattle.table.specs.Steps.{number_at, number_place, entry_of, body_of, decoded_by, decoded}
-use Rattle.table.specs.Steps.{no_room, limit, fits, first_unfit, offending, misnamed, begins_row, placed, permitted, judged, step_of, shown_step}
-use Rattle.table.specs.Steps.{one_more, shown_entered}
+use Rattle.table.specs.Steps.{no_room, limit, fits, first_unfit, offending, misnamed, begins_row, placed, permitted, judged, step_of}
+use Rattle.table.specs.Steps.{one_more, entered}
 use Rattle.table.specs.Places.{Misnames, Points}
 use Rattle.kinds.proofs.KindTable.{byte_of_kind, kind_of_byte}
 use Rattle.entries.proofs.Saying.{not_both, unless_answered, unless_refusing}
@@ -54,9 +51,9 @@ pub decodes : (k : ℕ) (body : List ℕ) (e : Entry) → decoded k body ≡ Ful
 unfolding decoded
 decodes k body e q = go (kind_of k) refl q
   where
-    go : (a : Announced) → kind_of k ≡ a → decoded_by a body ≡ Full e → Decodes k body e
-    go Unlisted p q = never cc
-    go (Listed kind) p q = cut (ltb (length body) (form_of kind).numbers) refl
+    go : (a : Option Kind) → kind_of k ≡ a → decoded_by a body ≡ Full e → Decodes k body e
+    go None p q = never cc
+    go (Some kind) p q = cut (ltb (length body) (form_of kind).numbers) refl
       where
         cut : (b : Bool) → ltb (length body) (form_of kind).numbers ≡ b → Decodes k body e
         cut true l = never (cc (sym (body_cut kind body (ltb-true _ _ l)) ∙ q))
@@ -170,32 +167,21 @@ points_behind front s before n p =
           rw (back, get_or-append-add front s (i - length front) 0) (m.first (i - length front) (omega arith) (omega arith));
     }))
 
--- what was said, from the step that shows it
-pub took : (x : Said Entry) (e : Entry) → shown_step x ≡ Took e → x ≡ answered e
-unfolding shown_step
-took (answered f) e q = cc
-took (refusing why) e q = never cc
-
-pub turned_away : (x : Said Entry) (why : Refusal) → shown_step x ≡ Bad why → x ≡ refusing why
-unfolding shown_step
-turned_away (answered f) why q = never cc
-turned_away (refusing other) why q = cc
-
 -- an entry that entered, and one that was kept out
-pub entered : (e : Entry) (good : Bool) (before more : Tally) → shown_entered before (permitted e good before) ≡ In more →
+pub entered_more : (e : Entry) (good : Bool) (before more : Tally) → answered more ≡ entered before (permitted e good before) →
     (permitted e good before ≡ answered e) × (more ≡ one_more e.kind before)
-unfolding shown_entered
-entered e good before more q = go (permitted e good before) refl q
+unfolding entered
+entered_more e good before more q = go (permitted e good before) refl q
   where
-    go : (x : Said Entry) → permitted e good before ≡ x → shown_entered before x ≡ In more →
+    go : (x : Said Entry) → permitted e good before ≡ x → answered more ≡ entered before x →
         (permitted e good before ≡ answered e) × (more ≡ one_more e.kind before)
     go (answered f) p q =
         let one = (allowed_if e f good before p).0 in
-        let same : one_more f.kind before ≡ more = cc in
-        (p ∙ ap answered (sym one), sym same ∙ ap (λ (e : Entry). one_more e.kind before) (sym one))
+        let same : more ≡ one_more f.kind before = cc in
+        (p ∙ ap answered (sym one), same ∙ ap (λ (e : Entry). one_more e.kind before) (sym one))
     go (refusing why) p q = never cc
 
-pub kept_out : (x : Said Entry) (before : Tally) (why : Refusal) → shown_entered before x ≡ Out why → x ≡ refusing why
-unfolding shown_entered
+pub kept_out : (x : Said Entry) (before : Tally) (why : Refusal) → refusing why ≡ entered before x → x ≡ refusing why
+unfolding entered
 kept_out (answered f) before why q = never cc
 kept_out (refusing other) before why q = cc

@@ -2,11 +2,11 @@
 -- Assumes nothing.
 use mathlib.Core.Path.{◌≡◌, refl, sym, ap, ap₂, ◌∙◌}
 use mathlib.Core.List.{List, [], ◌∷◌, ◌++◌, append_assoc}
-use Prim.Native.Nat.{ℕ, zero, suc, ◌+◌, ◌≤◌, ◌<◌}
+use Prim.Native.Nat.{ℕ, ◌+◌, ◌≤◌, ◌<◌}
 use native.Mathlib.Omega.{arith}
 use native.Mathlib.Numerals.{add-one}
-use lib.ListN.{length, get_or, take, drop, replicate, take-append-drop}
-use lib.Seq.{take-suc, take-length, length-take-le}
+use lib.ListN.{length, get_or, take, drop, take-append-drop}
+use lib.Seq.{take-suc, length-take-le}
 use borrow.Author.Tests.{eq-eqb, ne_eqb}
 use Rattle.entries.specs.declared.Entry.{Entry}
 use Rattle.entries.specs.Entries.{blank}
@@ -25,11 +25,6 @@ unfolding last_of
 last_append force [] more = refl
 last_append force (s ∷ ss) more = last_append s ss more
 
-pub last_same : (force n : ℕ) → last_of force (replicate n force) ≡ force
-unfolding last_of
-last_same force zero = refl
-last_same force (suc n) = last_same force n
-
 -- rows, part by part
 pub marked_append : (force : ℕ) (ss more : List ℕ) (es fs : List Entry) → length ss ≡ length es →
     marked force (ss ++ more) (es ++ fs) ≡ marked force ss es ++ marked (last_of force ss) more fs
@@ -40,12 +35,6 @@ marked_append force (s ∷ ss) more [] fs q = absurd (omega arith)
 marked_append force (s ∷ ss) more (e ∷ es) fs q =
     ap (λ (l : List Entry). change force s ++ (e ∷ l)) (marked_append s ss more es fs (omega arith))
     ∙ sym (append_assoc (change force s) (e ∷ marked s ss es) (marked (last_of s ss) more fs))
-
--- entries that all have the supplier in force
-pub marked_same : (force : ℕ) (es : List Entry) → marked force (replicate (length es) force) es ≡ es
-unfolding marked
-marked_same force [] = refl
-marked_same force (e ∷ es) = ap₂ (λ (l m : List Entry). l ++ (e ∷ m)) (unchanged force force refl) (marked_same force es)
 
 -- the supplier in force before row i
 abbrev pub force_at : List ℕ → ℕ → ℕ
@@ -78,6 +67,3 @@ module _ (ss : List ℕ) (es : List Entry) (many : length ss ≡ length es) wher
   marked_parts i l =
       ap₂ (marked no_supplier) (sym (take-append-drop i ss)) (sym (take-append-drop i es))
       ∙ marked_append no_supplier (take i ss) (drop i ss) (take i es) (drop i es) (both_taken i l)
-
-  pub marked_all : (i : ℕ) → i ≡ length es → marked_to i ≡ marked no_supplier ss es
-  marked_all i q = rw (q, take-length es, ← many, take-length ss)

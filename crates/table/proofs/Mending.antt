@@ -9,11 +9,10 @@ use Prim.Native.Nat.{ℕ, zero, suc, ◌+◌, ◌-◌, ◌≤◌, ◌<◌}
 use native.Mathlib.Omega.{arith}
 use lib.ListN.{length, get_or, drop, set, length-drop, length-set, take-append-drop}
 use lib.Seq.{take-set-le, get_or-set_same, get_or-set_other, get_or-drop}
-use Rattle.entries.specs.declared.refusals.Refusal.{Refusal}
+use Rattle.entries.specs.Said.{Refusal}
 use Rattle.kinds.specs.declared.Kind.{Kind}
 use Rattle.kinds.specs.declared.Kind.TheVariants.{Supplier}
-use Rattle.kinds.specs.declared.Announced.{Announced}
-use Rattle.kinds.specs.declared.Announced.TheVariants.{Listed, Unlisted}
+use Rattle.std.specs.Prelude.{Option, Some, None}
 use Rattle.entries.specs.declared.Entry.{Entry}
 use Rattle.table.specs.declared.steps.Tally.{Tally}
 use Rattle.entries.specs.Said.{Said, answered, refusing, refusal}
@@ -35,16 +34,16 @@ use Rattle.table.proofs.Speaking.{room_refuses, kind_byte, behind, read_up_to}
 
 -- a refusal at the kind byte does not look at the numbers, but at a 60
 numbers_unseen : (k : ℕ) (body other : List ℕ) (force : ℕ) (before : Tally) (why : Refusal) → length body ≡ length other → why.place ≡ 0 →
-    (kind_of k ≡ Listed Supplier → ⊥) → step_of k body force before ≡ refusing why → step_of k other force before ≡ refusing why
+    (kind_of k ≡ Some Supplier → ⊥) → step_of k body force before ≡ refusing why → step_of k other force before ≡ refusing why
 unfolding step_of decoded judged placed permitted
 numbers_unseen k body other force before why l z apart q = go (kind_of k) apart q
   where
-    go : (a : Announced) → (a ≡ Listed Supplier → ⊥) → judged (decoded_by a body) body force before ≡ refusing why →
+    go : (a : Option Kind) → (a ≡ Some Supplier → ⊥) → judged (decoded_by a body) body force before ≡ refusing why →
         judged (decoded_by a other) other force before ≡ refusing why
-    go Unlisted apart q = q
-    go (Listed kind) apart q =
+    go None apart q = q
+    go (Some kind) apart q =
         let own = entry_of kind body in
-        let good = placed_anyway kind own.a force (begins_row (drop (form_of kind).numbers body)) (λ is. apart (ap Listed is)) in
+        let good = placed_anyway kind own.a force (begins_row (drop (form_of kind).numbers body)) (λ is. apart (ap Some is)) in
         by_order (length body) (form_of kind).numbers
         (λ c. rw (body_cut kind other (rw l at c)) (rw (body_cut kind body c) at q))
         (λ c. by_refusal own true before why (rw (body_whole kind body c, good) at q)
@@ -87,7 +86,7 @@ module _ (s : List ℕ) (n p : ℕ) (w : Speaks s n p) (m : Misnames s w.start (
   abbrev force : ℕ
   force = w.before.supplier
 
-  no_supplier : kind_of k ≡ Listed Supplier → ⊥
+  no_supplier : kind_of k ≡ Some Supplier → ⊥
   no_supplier q =
       let same : m.kind ≡ Supplier = cc (sym m.listed ∙ q) in
       let high : number_limit ≤ get_or s p 0 = rw same at m.too_high in
@@ -114,7 +113,7 @@ module _ (s : List ℕ) (n p : ℕ) (w : Speaks s n p) (m : Misnames s w.start (
       (λ b. rw (get_or-set_other s p i x 0 (λ z. omega arith)) (m.first i l b))
       (λ b. let same : i ≡ p = omega arith in rw (same, get_or-set_same s p x 0 w.within) low)
 
-  same_kind : (kind : Kind) → kind_of k ≡ Listed kind → kind ≡ m.kind
+  same_kind : (kind : Kind) → kind_of k ≡ Some kind → kind ≡ m.kind
   same_kind kind q = let both = sym q ∙ m.listed in cc both
 
   -- so what the entry still brings points beyond: at its kind byte it would have brought it before, and its numbers up to the place are low

@@ -7,6 +7,7 @@ use mathlib.Core.Logic.{⊎_elim}
 use Prim.Native.Nat.{ℕ, zero, suc, ◌≤◌, ◌<◌}
 use native.Mathlib.Omega.{arith}
 use lib.Dec.{ltb, eqb}
+use Rattle.std.specs.Prelude.{Some, None}
 use borrow.Author.Tests.{eqb-true, ltb-true, ltb-false, lt-ltb, le-ltb}
 use Rattle.belnap.proofs.Finite.{never, both_parts, or_part, neither}
 use Rattle.kinds.specs.declared.Kind.{Kind}
@@ -15,14 +16,14 @@ use Rattle.kinds.specs.declared.Names.{Names}
 use Rattle.kinds.specs.declared.Names.TheVariants.{Nothing, Predicates, Rows, Questions, Suppliers}
 use Rattle.entries.specs.declared.Entry.{Entry}
 use Rattle.table.specs.declared.steps.Tally.{Tally}
-use Rattle.entries.specs.declared.refusals.Refusal.{Refusal}
+use Rattle.entries.specs.Said.{Refusal}
 use Rattle.entries.specs.Refusals.{predicate_too_high, not_to_be_named, out_of_order, too_many_rows, too_many_questions, too_many_constraints}
 use Rattle.entries.specs.Refusals.{idle_supplier}
 use Rattle.entries.specs.Refusals.{at_kind_byte, at_number, of_entries, is_among}
 use Rattle.entries.specs.Said.{answered, refusing, refusal, unless}
 use Rattle.entries.specs.Entries.{numbers_of, names_of}
-use Rattle.table.specs.Steps.{row_limit, question_limit, constraint_limit, number_place, room_by, no_room, limit, named_at, fits, first_unfit}
-use Rattle.table.specs.Steps.{offending, misnamed, misnaming, placed_by, unless_placed, permitted}
+use Rattle.table.specs.Steps.{row_limit, question_limit, constraint_limit, room_by, no_room, limit, named_at, fits, first_unfit}
+use Rattle.table.specs.Steps.{offending, some_place, misnamed, misnaming, placed_by, unless_placed, permitted}
 use Rattle.table.specs.Whole.{named}
 use Rattle.entries.proofs.Numbers.{by_order}
 use Rattle.entries.proofs.Saying.{not_both, unless_none, unless_answered, unless_refusing}
@@ -112,16 +113,7 @@ all_named e before h = go (fits e before 0 e.a) (fits e before 1 e.b) h
     go true false h = absurd (omega arith)
     go false q h = absurd (omega arith)
 
--- the first offending number, by each case of which numbers fit
-pub offending_by : (e : Entry) (before : Tally) (p q : Bool) (r : ℕ) → p ≡ fits e before 0 e.a → q ≡ fits e before 1 e.b →
-    (p ≡ true → q ≡ true → r ≡ 0) → (p ≡ true → q ≡ false → r ≡ number_place 1) → (p ≡ false → r ≡ number_place 0) →
-    r ≡ offending e before
-unfolding offending
-offending_by e before true true r a b none second first = rw (← a, ← b) (none refl refl)
-offending_by e before true false r a b none second first = rw (← a, ← b) (second refl refl)
-offending_by e before false q r a b none second first = rw (← a) (first refl)
-
--- what an answer tells of the place of 3 and 4, what a refusal does, and the refusal at a number
+-- what an answer tells of the place of 3 and 4, and what a refusal does
 misnaming_answered : (e f : Entry) (place : ℕ) → misnaming e place ≡ answered f → (e ≡ f) × (place ≡ 0)
 misnaming_answered e f zero q = (cc, refl)
 misnaming_answered e f (suc i) q = not_both (sym q)
@@ -131,9 +123,15 @@ pub misnaming_refusing : (e : Entry) (place : ℕ) (why : Refusal) → misnaming
 misnaming_refusing e zero why q = not_both q
 misnaming_refusing e (suc i) why q = (λ z. omega arith, cc)
 
-pub misnaming_some : (e : Entry) (place : ℕ) → (place ≡ 0 → ⊥) → misnaming e place ≡ refusing (refusal (misnamed (names_of e)) place)
-misnaming_some e zero h = absurd (h refl)
-misnaming_some e (suc i) h = refl
+-- what is said, by the place that offends, if one does
+pub misnaming_none : (e : Entry) (place : ℕ) → None ≡ some_place place → misnaming e place ≡ answered e
+misnaming_none e zero q = refl
+misnaming_none e (suc i) q = never cc
+
+pub misnaming_place : (e : Entry) (place found : ℕ) → Some found ≡ some_place place →
+    misnaming e place ≡ refusing (refusal (misnamed (names_of e)) found)
+misnaming_place e zero found q = never cc
+misnaming_place e (suc i) found q = let same : suc i ≡ found = cc in ap (λ (p : ℕ). refusing (refusal (misnamed (names_of e)) p)) same
 
 pub permitted_if : (e : Entry) (good : Bool) (before : Tally) → Allowed good before e → permitted e good before ≡ answered e
 unfolding permitted

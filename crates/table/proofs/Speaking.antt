@@ -12,12 +12,11 @@ use lib.Seq.{take-append_seam, drop_at, drop-append-add, get_or-append_seam, tak
 use lib.Dec.{ltb}
 use borrow.Author.Tests.{ltb-true}
 use Rattle.belnap.proofs.Finite.{never}
-use Rattle.entries.specs.declared.refusals.Refusal.{Refusal}
+use Rattle.entries.specs.Said.{Refusal}
 use Rattle.kinds.specs.declared.Kind.{Kind}
 use Rattle.kinds.specs.declared.Kind.TheVariants.{Supplier}
 use Rattle.entries.specs.declared.Entry.{Entry}
-use Rattle.kinds.specs.declared.Announced.{Announced}
-use Rattle.kinds.specs.declared.Announced.TheVariants.{Listed, Unlisted}
+use Rattle.std.specs.Prelude.{Option, Some, None}
 use Rattle.table.specs.declared.steps.Tally.{Tally}
 use Rattle.entries.specs.Refusals.{cut_short, not_to_be_named, out_of_order, at_kind_byte, at_number, is_among}
 use Rattle.entries.specs.Said.{refusing, refusal, unless}
@@ -36,9 +35,9 @@ use Rattle.table.proofs.Turns.{bytes_from}
 use Rattle.table.proofs.Writing.{Open, Stopped, of_accepted, of_refused, read_open, whole_accepted}
 
 -- how many bytes of its own a refused entry has behind its kind byte
-abbrev own_bytes : Announced → ℕ
-own_bytes Unlisted = 0
-own_bytes (Listed kind) = body_size kind
+abbrev own_bytes : Option Kind → ℕ
+own_bytes None = 0
+own_bytes (Some kind) = body_size kind
 
 -- behind them, nothing matters but for 2 and at a 60
 number_kept : (m i : ℕ) (rest more : List ℕ) → m ≤ length rest → number_at m i (take m rest ++ more) ≡ number_at m i rest
@@ -97,15 +96,15 @@ judged_kept kind rest more force before why h late q =
     (full_kept own force (begins_row (drop (form_of kind).numbers rest)) _ before why late (rw (body_whole kind rest w) at q)))
 
 step_kept : (k : ℕ) (rest more : List ℕ) (force : ℕ) (before : Tally) (why : Refusal) → (why.number ≡ cut_short → ⊥) →
-    (kind_of k ≡ Listed Supplier → why.number ≡ out_of_order) → step_of k rest force before ≡ refusing why →
+    (kind_of k ≡ Some Supplier → why.number ≡ out_of_order) → step_of k rest force before ≡ refusing why →
     step_of k (take (own_bytes (kind_of k)) rest ++ more) force before ≡ refusing why
 unfolding step_of decoded judged
 step_kept k rest more force before why h late q = go (kind_of k) late q
   where
-    go : (a : Announced) → (a ≡ Listed Supplier → why.number ≡ out_of_order) → judged (decoded_by a rest) rest force before ≡ refusing why →
+    go : (a : Option Kind) → (a ≡ Some Supplier → why.number ≡ out_of_order) → judged (decoded_by a rest) rest force before ≡ refusing why →
         judged (decoded_by a (take (own_bytes a) rest ++ more)) (take (own_bytes a) rest ++ more) force before ≡ refusing why
-    go Unlisted late q = q
-    go (Listed kind) late q = judged_kept kind rest more force before why h (λ is. late (ap Listed is)) q
+    go None late q = q
+    go (Some kind) late q = judged_kept kind rest more force before why h (λ is. late (ap Some is)) q
 
 -- a refused table: its first bad entry speaks
 module _ (s : List ℕ) (n p : ℕ) (q : reading s ≡ refusing (refusal n p)) where
@@ -179,7 +178,7 @@ module _ (s : List ℕ) (n p : ℕ) (w : Speaks s n p) where
       ap (λ (l : List ℕ). reading (l ++ (kind_byte ∷ more))) w.bytes ∙ read_open w.before (kind_byte ∷ more) stands ∙ rw at
 
   -- but for 2, and for a 60 that is not out of order, whatever follows its own bytes does not matter
-  pub refused_anyway : (n ≡ cut_short → ⊥) → (kind_of kind_byte ≡ Listed Supplier → n ≡ out_of_order) → (more : List ℕ) →
+  pub refused_anyway : (n ≡ cut_short → ⊥) → (kind_of kind_byte ≡ Some Supplier → n ≡ out_of_order) → (more : List ℕ) →
       reading (take (w.start + suc (own_bytes (kind_of kind_byte))) s ++ more) ≡ refusing (refusal n p)
   unfolding read_on after
   refused_anyway h late more =

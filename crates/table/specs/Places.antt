@@ -1,7 +1,6 @@
 -- What a refusal of reading's says, and what its place points at (01, "When we say no"; 02, L1 and L6).
-use Rattle.std.specs.Prelude.{ℕ, ◌+◌, ◌-◌, ◌≤◌, ◌<◌, ◌≡◌, Bool, true, List, [], ◌⊎◌, length, get_or, take, drop}
+use Rattle.std.specs.Prelude.{ℕ, ◌+◌, ◌-◌, ◌≤◌, ◌<◌, ◌≡◌, Bool, true, List, [], ◌⊎◌, length, get_or, take, drop, Some}
 use Rattle.kinds.specs.declared.Kind.{Kind}
-use Rattle.kinds.specs.declared.Announced.TheVariants.{Listed}
 use Rattle.table.specs.declared.steps.Tally.{Tally}
 use Rattle.entries.specs.Refusals.{at_kind_byte, is_among}
 use Rattle.entries.specs.Said.{answered, refusing, refusal}
@@ -15,7 +14,7 @@ use Rattle.table.specs.Reading.{reading}
 -- short; the number there is at or above the limit, and every number before it in that body is below the limit
 pub record Misnames (s : List ℕ) (start : ℕ) (before : Tally) (number place : ℕ) : Type 0 where
   pub kind : Kind
-  pub listed : kind_of (get_or s start 0) ≡ Listed kind
+  pub listed : kind_of (get_or s start 0) ≡ Some kind
   pub number_is : number ≡ misnamed (form_of kind).names
   pub whole : start + body_size kind < length s
   pub in_body : (start < place) × (place ≤ start + body_size kind)

@@ -1,11 +1,8 @@
 -- A table as it is read, entry by entry from the front (01, "The table, byte by byte" and "When we say no").
-use Rattle.std.specs.Prelude.{ℕ, zero, suc, ◌+◌, ◌-◌, ◌≤◌, List, [], ◌∷◌, ◌++◌, length, get_or, drop, replicate}
+use Rattle.std.specs.Prelude.{ℕ, zero, suc, ◌+◌, ◌-◌, ◌≤◌, ◌≡◌, List, [], ◌∷◌, ◌++◌, length, get_or, drop, replicate}
 use Rattle.entries.specs.declared.Entry.{Entry}
 use Rattle.table.specs.declared.Table.{Table}
-use Rattle.table.specs.declared.Reading.{Reading}
-use Rattle.table.specs.declared.Outcome.{Outcome}
-use Rattle.table.specs.declared.Outcome.TheVariants.{Read, Refused}
-use Rattle.entries.specs.Said.{Said, answered, refusing, refusal, why_of}
+use Rattle.entries.specs.Said.{Said, answered, refusing, refusal, and_then}
 use Rattle.entries.specs.Entries.{blank, size_of}
 use Rattle.table.specs.Steps.{row_limit, question_limit, constraint_limit, step_of}
 use Rattle.table.specs.Suppliers.{no_supplier, last_of}
@@ -68,18 +65,27 @@ pub record Fits (t : Table) : Type 0 where
   pub used_fit : t.tally.rows ≤ row_limit
   pub asked_fit : t.tally.questions ≤ question_limit
 
+-- and it has all its places
+pub record Full (t : Table) : Type 0 where
+  pub fits : Fits t
+  pub constraints_long : length t.constraints ≡ constraint_limit
+  pub rows_long : length t.rows ≡ row_limit
+  pub suppliers_long : length t.suppliers ≡ row_limit
+  pub questions_long : length t.questions ≡ question_limit
+
 -- the entries that a struct holds, in order
 abbrev pub held : Table → List Entry
 held t = entries (contents_in t)
 
--- what reading shows: the table, or the refusal beside an empty table
-abbrev pub outcome_of : Said Contents → Outcome
-outcome_of (answered c) = Read
-outcome_of (refusing why) = Refused
+-- what reading shows: the table beside an answer without a value, or an empty one beside the refusal
+abbrev pub outcome_of : Said Contents → Said Unit
+outcome_of (answered c) = answered tt
+outcome_of (refusing why) = refusing why
 
 abbrev pub or_none : Said Contents → Contents
 or_none (answered c) = c
 or_none (refusing why) = none
 
-unfoldable pub shown : Said Contents → Reading
-shown x = record { table = table_of (or_none x); outcome = outcome_of x; why = why_of x }
+-- and the table alone
+abbrev pub tabled : Said Contents → Said Table
+tabled x = and_then x (λ c. answered (table_of c))

@@ -1,20 +1,15 @@
 -- The limits, what bytes are decoded to, and whether an entry may stand in a table behind so many constraints, rows and questions
 -- (01, "The table, byte by byte" and "When we say no"; 02, L5 and L6).
 use Rattle.std.specs.Prelude.{ℕ, zero, suc, ◌+◌, ◌*◌, Bool, true, false, cond, not, ◌&&◌, ◌||◌, List, [], ◌∷◌, length, get_or, drop, ltb, eqb}
+use Rattle.std.specs.Prelude.{Option, Some, None}
 use Rattle.kinds.specs.declared.Kind.{Kind}
 use Rattle.kinds.specs.declared.Kind.TheVariants.{Row, Question, Constraint, Supplier}
-use Rattle.kinds.specs.declared.Announced.{Announced}
-use Rattle.kinds.specs.declared.Announced.TheVariants.{Listed, Unlisted}
 use Rattle.kinds.specs.declared.Names.{Names}
 use Rattle.kinds.specs.declared.Names.TheVariants.{Nothing, Predicates, Rows, Questions, Suppliers}
 use Rattle.entries.specs.declared.Entry.{Entry}
 use Rattle.table.specs.declared.steps.Tally.{Tally}
 use Rattle.table.specs.declared.steps.Decoded.{Decoded}
 use Rattle.table.specs.declared.steps.Decoded.TheVariants.{Unknown, Cut, Full}
-use Rattle.table.specs.declared.steps.Step.{Step}
-use Rattle.table.specs.declared.steps.Step.TheVariants.{Took, Bad}
-use Rattle.table.specs.declared.steps.Entered.{Entered}
-use Rattle.table.specs.declared.steps.Entered.TheVariants.{In, Out}
 use Rattle.entries.specs.Refusals.{unlisted, cut_short, predicate_too_high, not_to_be_named, out_of_order, too_many_rows, too_many_questions}
 use Rattle.entries.specs.Refusals.{too_many_constraints}
 use Rattle.entries.specs.Refusals.{idle_supplier}
@@ -56,9 +51,9 @@ entry_of kind body = let numbers = (form_of kind).numbers in record { kind = kin
 unfoldable pub body_of : Kind → List ℕ → Decoded
 body_of kind body = cond (ltb (length body) (body_size kind)) (Cut kind) (Full (entry_of kind body))
 
-abbrev pub decoded_by : Announced → List ℕ → Decoded
-decoded_by Unlisted body = Unknown
-decoded_by (Listed kind) body = body_of kind body
+abbrev pub decoded_by : Option Kind → List ℕ → Decoded
+decoded_by None body = Unknown
+decoded_by (Some kind) body = body_of kind body
 
 -- what a kind byte and the bytes behind it are
 unfoldable pub decoded : ℕ → List ℕ → Decoded
@@ -111,6 +106,11 @@ first_unfit false second = number_place 0
 unfoldable pub offending : Entry → Tally → ℕ
 offending e before = first_unfit (fits e before 0 e.a) (fits e before 1 e.b)
 
+-- the place that offends, if one does
+abbrev pub some_place : ℕ → Option ℕ
+some_place zero = None
+some_place (suc i) = Some (suc i)
+
 -- 3, a predicate above 23; 4, a number that may not be named there
 abbrev pub misnamed : Names → ℕ
 misnamed Nothing = not_to_be_named
@@ -157,11 +157,7 @@ judged (Full e) body force before = permitted e (placed e force (begins_row (dro
 unfoldable pub step_of : ℕ → List ℕ → ℕ → Tally → Said Entry
 step_of k body force before = judged (decoded k body) body force before
 
-unfoldable pub shown_step : Said Entry → Step
-shown_step (answered e) = Took e
-shown_step (refusing why) = Bad why
-
 -- the count with the entry that may stand there
-unfoldable pub shown_entered : Tally → Said Entry → Entered
-shown_entered before (answered e) = In (one_more e.kind before)
-shown_entered before (refusing why) = Out why
+unfoldable pub entered : Tally → Said Entry → Said Tally
+entered before (answered e) = answered (one_more e.kind before)
+entered before (refusing why) = refusing why

@@ -4,12 +4,12 @@
 pub mod steps;
 pub mod suppliers;
 
-ghost use Rattle.std.specs.Prelude.{◌≡◌};
-ghost use Rattle.entries.specs.Said.{refusing};
+ghost use Rattle.std.specs.Prelude.{◌≡◌, Err};
+ghost use Rattle.entries.specs.Said.{said};
 ghost use Rattle.table.specs.Contents.{none};
-ghost use Rattle.table.specs.Reading.{reading, table_of, shown};
+ghost use Rattle.table.specs.Reading.{reading, table_of, outcome_of, or_none, tabled};
 
-use crate::steps::{Step, Tally};
+use crate::steps::Tally;
 use belnap::Decision;
 use entries::Entry;
 use entries::refusals::Refusal;
@@ -26,19 +26,11 @@ pub struct Table {
     pub predicates: usize,
 }
 
-// Read, or refused.
-#[derive(Clone, Copy)]
-pub enum Outcome {
-    Read,
-    Refused,
-}
-
-// A table with an enum beside it, and the refusal, which is to be returned unchanged; its number is 0 where there is none.
+// A table with what reading came to beside it: it was read, or it is empty beside the refusal.
 #[derive(Clone, Copy)]
 pub struct Reading {
     pub table: Table,
-    pub outcome: Outcome,
-    pub why: Refusal,
+    pub outcome: Result<(), Refusal>,
 }
 
 impl Table {
@@ -50,6 +42,7 @@ impl Table {
 
     pub const CONSTRAINTS: usize = 32;
 
+    #[tactic(auto, unfolding(crate::specs::Reading::table_of, crate::specs::Contents::highest))]
     pub fn empty() -> Self
         ensures { result ≡ table_of none }
     {
@@ -75,64 +68,69 @@ impl Table {
 
 // Beside a refusal the table is empty.
 fn refused(why: Refusal) -> Reading
-    ensures { result ≡ shown (refusing why) }
+    ensures table { result.table ≡ table_of none }
+    ensures outcome { result.outcome ≡ Err why }
 {
     Reading {
         table: Table::empty(),
-        outcome: Outcome::Refused,
-        why,
+        outcome: Err(why),
     }
 }
 
 // Any bytes: the table, or the first refusal.
 pub fn read(s: &[u8]) -> Reading
-    ensures { result ≡ shown (reading s.now) }
+    ensures table { result.table ≡ table_of (or_none (reading s.now)) }
+    ensures outcome { said result.outcome ≡ outcome_of (reading s.now) }
 {
     let mut t = Table::empty();
     let mut force = suppliers::NONE;
     let mut at = 0;
+    // a `while`, since an entry's size says where the next begins
     while at < s.len() {
         let before = t.tally;
-        let step = steps::step_at(s, at, force, before);
-        match step {
-            Step::Took(e) => {
-                let kind = e.kind;
-                match kind {
+        match steps::step_at(s, at, force, before) {
+            Ok(e) => {
+                match e.kind {
                     Kind::Row(_) => {
-                        let used = before.rows;
-                        t.rows[used] = e;
-                        t.suppliers[used] = force;
+                        t.rows[before.rows] = e;
+                        t.suppliers[before.rows] = force;
                     }
                     Kind::Question(_) => {
-                        let asked = before.questions;
-                        t.questions[asked] = e;
+                        t.questions[before.questions] = e;
                     }
                     Kind::Constraint(_) => {
-                        let bound = before.constraints;
-                        t.constraints[bound] = e;
+                        t.constraints[before.constraints] = e;
                     }
                     Kind::Supplier => {
                         force = e.a;
                     }
                 }
-                t.predicates = entries::larger(t.predicates, entries::uses_of(e));
-                let more = steps::one_more(kind, before);
-                t.tally = more;
-                at = at + entries::size_of(e);
+                t.predicates = t.predicates.max(entries::uses_of(e));
+                t.tally = steps::one_more(e.kind, before);
+                at += entries::size_of(e);
             }
-            Step::Bad(why) => {
-                let place = at + why.place;
+            Err(why) => {
                 return refused(Refusal {
-                    number: why.number,
-                    place,
+                    reason: why.reason,
+                    place: at + why.place,
                 });
             }
         }
     }
-    let why = Refusal::of(0);
     Reading {
         table: t,
-        outcome: Outcome::Read,
-        why,
+        outcome: Ok(()),
     }
+}
+
+// The table that any bytes are, or the first refusal, unchanged.
+#[inline(always)]
+pub fn accept(s: &[u8]) -> Result<Table, Refusal>
+    ensures { said result ≡ tabled (reading s.now) }
+{
+    let got = read(s);
+    let Err(why) = got.outcome else {
+        return Ok(got.table);
+    };
+    Err(why)
 }

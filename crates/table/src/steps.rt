@@ -1,18 +1,18 @@
 // One step of reading: what the bytes from a place on are, and whether an entry may stand in a table there.
 ghost use Rattle.std.specs.Prelude.{◌≡◌, ◌+◌, ◌<◌, length, get_or, drop};
-ghost use Rattle.entries.specs.Refusals.{cut_short};
+ghost use Rattle.entries.specs.Refusals.{cut_short, number_of, number_or_none};
 ghost use Rattle.kinds.specs.Kinds.{form_of};
-ghost use Rattle.entries.specs.Said.{refusing, refusal, unless, or_else};
-ghost use Rattle.table.specs.Steps.{one_more, room_by, no_room, limit, misnamed, number_at, number_place, named_at, offending};
-ghost use Rattle.table.specs.Steps.{body_of, decoded, begins_row, placed, unless_placed, permitted, step_of, shown_step, shown_entered};
+ghost use Rattle.entries.specs.Said.{refusal, or_else, told, said};
+ghost use Rattle.table.specs.Steps.{one_more, room_by, no_room, limit, misnamed, number_at, number_place, named_at, offending, some_place};
+ghost use Rattle.table.specs.Steps.{body_of, decoded, begins_row, placed, unless_placed, permitted, step_of, entered};
 
 use crate::Table;
-use entries::refusals::Refusal;
-use entries::{Entry, refusals};
-use kinds::{Announced, Form, Kind, Names};
+use entries::Entry;
+use entries::refusals::{Reason, Refusal};
+use kinds::{Form, Kind, Names};
 
 // So many constraints, rows and questions.
-#[derive(Clone, Copy)]
+#[derive(Clone, Copy, Debug, PartialEq, Eq)]
 pub struct Tally {
     pub constraints: usize,
     pub rows: usize,
@@ -20,25 +20,11 @@ pub struct Tally {
 }
 
 // What the bytes from a kind byte on are: of no listed kind, of a kind whose body is cut short, or an entry.
-#[derive(Clone, Copy)]
+#[derive(Clone, Copy, Debug, PartialEq, Eq)]
 pub enum Decoded {
     Unknown,
     Cut(Kind),
     Full(Entry),
-}
-
-// What stands at a place: an entry, or a refusal whose place is counted from the kind byte.
-#[derive(Clone, Copy)]
-pub enum Step {
-    Took(Entry),
-    Bad(Refusal),
-}
-
-// The count with an entry more, or why it may not stand there.
-#[derive(Clone, Copy)]
-pub enum Entered {
-    In(Tally),
-    Out(Refusal),
 }
 
 // The count with an entry of a kind more, for which there is room.
@@ -62,37 +48,42 @@ pub(crate) fn one_more(kind: Kind, before: Tally) -> Tally
     more
 }
 
-// 5 for an entry that comes too late, then the refusal of one more than there may be, else 0.
-fn room_by(late: bool, count: usize, limit: usize, full: u8) -> u8
-    ensures { result ≡ room_by late count limit full }
+// Out of order for an entry that comes too late, then the reason against one more than there may be; none where there is room.
+fn room_by(late: bool, count: usize, limit: usize, full: Reason) -> Option<Reason>
+    ensures { number_or_none result ≡ room_by late count limit (number_of full) }
 {
     if late {
-        return refusals::OUT_OF_ORDER;
+        return Some(Reason::OutOfOrder);
     }
-    if count < limit { 0 } else { full }
+    if count < limit { None } else { Some(full) }
 }
 
-// 5, 6, 7 or 14 where there is no room for an entry of a kind, else 0.
-fn no_room(kind: Kind, before: Tally) -> u8
-    ensures { result ≡ no_room kind before }
+// Why there is no room for an entry of a kind, if there is none.
+#[tactic(auto, unfolding(crate::specs::Steps::no_room))]
+fn no_room(kind: Kind, before: Tally) -> Option<Reason>
+    ensures { number_or_none result ≡ no_room kind before }
 {
     let asked = 0 < before.questions;
     let ruled = 0 < before.rows;
     match kind {
-        Kind::Row(_) => room_by(asked, before.rows, Table::ROWS, refusals::TOO_MANY_ROWS),
+        Kind::Row(_) => room_by(asked, before.rows, Table::ROWS, Reason::TooManyRows),
         Kind::Question(_) => room_by(
             false,
             before.questions,
             Table::QUESTIONS,
-            refusals::TOO_MANY_QUESTIONS,
+            Reason::TooManyQuestions,
         ),
         Kind::Constraint(_) => room_by(
             ruled | asked,
             before.constraints,
             Table::CONSTRAINTS,
-            refusals::TOO_MANY_CONSTRAINTS,
+            Reason::TooManyConstraints,
         ),
-        Kind::Supplier => if asked { refusals::OUT_OF_ORDER } else { 0 },
+        Kind::Supplier => if asked {
+            Some(Reason::OutOfOrder)
+        } else {
+            None
+        },
     }
 }
 
@@ -109,16 +100,16 @@ fn limit_of(names: Names, before: Tally) -> usize
     }
 }
 
-// The refusal of a number that is not below its limit.
-fn misnamed_of(names: Names) -> u8
-    ensures { result ≡ misnamed names }
+// Why a number that is not below its limit is refused.
+fn misnamed_of(names: Names) -> Reason
+    ensures { number_of result ≡ misnamed names }
 {
     match names {
-        Names::Nothing => refusals::NOT_TO_BE_NAMED,
-        Names::Predicates => refusals::PREDICATE_TOO_HIGH,
-        Names::Rows => refusals::NOT_TO_BE_NAMED,
-        Names::Questions => refusals::NOT_TO_BE_NAMED,
-        Names::Suppliers => refusals::NOT_TO_BE_NAMED,
+        Names::Nothing => Reason::NotToBeNamed,
+        Names::Predicates => Reason::PredicateTooHigh,
+        Names::Rows => Reason::NotToBeNamed,
+        Names::Questions => Reason::NotToBeNamed,
+        Names::Suppliers => Reason::NotToBeNamed,
     }
 }
 
@@ -141,24 +132,23 @@ fn number_place(i: usize) -> usize
     i + 1
 }
 
-// The place of the first of an entry's numbers, in the body's order, that is not below its limit; 0 where each is. Its kind's form is told.
-fn offending_in(form: Form, e: Entry, before: Tally) -> usize
+// The place of the first of an entry's numbers, in the body's order, that is not below its limit, if one is not. Its kind's form is told.
+#[tactic(auto, unfolding(crate::specs::Steps::offending))]
+fn offending_in(form: Form, e: Entry, before: Tally) -> Option<usize>
     requires { form ≡ form_of e.kind }
-    ensures { result ≡ offending e before }
+    ensures { result ≡ some_place (offending e before) }
 {
-    let names = form.names;
-    let numbers = form.numbers;
-    let below = limit_of(names, before);
-    let first = named_at(numbers, below, 0, e.a);
-    let second = named_at(numbers, below, 1, e.b);
+    let below = limit_of(form.names, before);
+    let first = named_at(form.numbers, below, 0, e.a);
+    let second = named_at(form.numbers, below, 1, e.b);
     // one test, where nothing offends: almost every entry
     if first & second {
-        return 0;
+        return None;
     }
     if first {
-        number_place(1)
+        Some(number_place(1))
     } else {
-        number_place(0)
+        Some(number_place(0))
     }
 }
 
@@ -175,13 +165,13 @@ fn number_at(s: &[u8], at: usize, numbers: usize, i: usize) -> u8
 }
 
 // The body of an entry of a listed kind, whose kind byte stands at a place.
+#[tactic(auto, using(crate::proofs::Decoding::body_cut, crate::proofs::Decoding::body_whole), unfolding(crate::specs::Steps::body_of))]
 fn body_at(kind: Kind, s: &[u8], at: usize) -> Decoded
     requires { at < length s.now }
     ensures { result ≡ body_of kind (drop (at + 1) s.now) }
 {
-    let form = kinds::form_of(kind);
-    let numbers = form.numbers;
-    if s.len() - at <= entries::body_size(kind) {
+    let numbers = entries::body_size(kind);
+    if s.len() - at <= numbers {
         return Decoded::Cut(kind);
     }
     let a = number_at(s, at, numbers, 0);
@@ -190,22 +180,15 @@ fn body_at(kind: Kind, s: &[u8], at: usize) -> Decoded
 }
 
 // What the bytes from a kind byte on are.
+#[tactic(auto, unfolding(crate::specs::Steps::decoded))]
 fn decode(s: &[u8], at: usize) -> Decoded
     requires { at < length s.now }
     ensures { result ≡ decoded (get_or s.now at 0) (drop (at + 1) s.now) }
 {
-    let announced = kinds::kind_of(s[at]);
-    match announced {
-        Announced::Listed(kind) => body_at(kind, s, at),
-        Announced::Unlisted => Decoded::Unknown,
+    match kinds::kind_of(s[at]) {
+        Some(kind) => body_at(kind, s, at),
+        None => Decoded::Unknown,
     }
-}
-
-// A refusal, its place counted from the kind byte.
-fn bad(number: u8, place: usize) -> Step
-    ensures { result ≡ Step.Bad (refusal number place) }
-{
-    Step::Bad(Refusal { number, place })
 }
 
 // Whether a row's kind byte stands at a place.
@@ -219,11 +202,11 @@ fn row_at(s: &[u8], at: usize) -> bool
 }
 
 // Whether an entry behind a supplier in force is no idle supplier; the next entry's kind byte would stand at a place.
+#[tactic(auto, unfolding(crate::specs::Steps::placed))]
 fn placed_at(e: Entry, force: u8, s: &[u8], next: usize) -> bool
     ensures { result ≡ placed e force (begins_row (drop next s.now)) }
 {
-    let kind = e.kind;
-    match kind {
+    match e.kind {
         Kind::Row(_) => true,
         Kind::Question(_) => true,
         Kind::Constraint(_) => true,
@@ -231,69 +214,62 @@ fn placed_at(e: Entry, force: u8, s: &[u8], next: usize) -> bool
     }
 }
 
-// 5, 6, 7 or 14 where there is no room for an entry of a kind, 15 where it is an idle supplier, else 0.
-fn out_of_place(kind: Kind, well: bool, before: Tally) -> u8
-    ensures { result ≡ or_else (no_room kind before) (unless_placed well) }
+// Why an entry of a kind may not stand where it does, whatever its numbers: there is no room, or it is an idle supplier.
+fn out_of_place(kind: Kind, well: bool, before: Tally) -> Option<Reason>
+    ensures { number_or_none result ≡ or_else (no_room kind before) (unless_placed well) }
 {
-    let full = no_room(kind, before);
-    if full != 0 {
-        return full;
-    }
-    if well { 0 } else { refusals::IDLE_SUPPLIER }
+    let idle = if well {
+        None
+    } else {
+        Some(Reason::IdleSupplier)
+    };
+    no_room(kind, before).or(idle)
 }
 
-// Whether an entry may stand behind so many others; it is placed well, or is an idle supplier.
-pub(crate) fn permit(e: Entry, well: bool, before: Tally) -> Step
-    ensures { result ≡ shown_step (permitted e well before) }
+// An entry that may stand behind so many others, or why it may not; it is placed well, or is an idle supplier. A place is counted from the kind byte.
+#[inline(always)]
+pub(crate) fn permit(e: Entry, well: bool, before: Tally) -> Result<Entry, Refusal>
+    ensures { said result ≡ permitted e well before }
 {
-    let kind = e.kind;
-    let out = out_of_place(kind, well, before);
-    if out != 0 {
-        return bad(out, 0);
+    if let Some(reason) = out_of_place(e.kind, well, before) {
+        return Err(Refusal::of(reason));
     }
-    let form = kinds::form_of(kind);
-    let names = form.names;
-    let place = offending_in(form, e, before);
-    if place != 0 {
-        return bad(misnamed_of(names), place);
+    let form = kinds::form_of(e.kind);
+    match offending_in(form, e, before) {
+        None => Ok(e),
+        Some(place) => Err(Refusal {
+            reason: misnamed_of(form.names),
+            place,
+        }),
     }
-    Step::Took(e)
 }
 
-// An entry whose body is cut short: its room is asked for first.
-fn cut_short(kind: Kind, before: Tally) -> Step
-    ensures { result ≡ shown_step (unless (no_room kind before) (refusing (refusal cut_short 0))) }
+// Why an entry whose body is cut short is refused: its room is asked for first.
+fn cut_short(kind: Kind, before: Tally) -> Refusal
+    ensures { told result ≡ refusal (or_else (no_room kind before) cut_short) 0 }
 {
-    let full = no_room(kind, before);
-    if full != 0 {
-        return bad(full, 0);
+    match no_room(kind, before) {
+        Some(reason) => Refusal::of(reason),
+        None => Refusal::of(Reason::CutShort),
     }
-    bad(refusals::CUT_SHORT, 0)
 }
 
-// The entry whose kind byte stands at a place, behind a supplier in force and so many others.
-pub(crate) fn step_at(s: &[u8], at: usize, force: u8, before: Tally) -> Step
+// The entry whose kind byte stands at a place, behind a supplier in force and so many others, or why it may not stand there.
+pub(crate) fn step_at(s: &[u8], at: usize, force: u8, before: Tally) -> Result<Entry, Refusal>
     requires { at < length s.now }
-    ensures { result ≡ shown_step (step_of (get_or s.now at 0) (drop (at + 1) s.now) force before) }
+    ensures { said result ≡ step_of (get_or s.now at 0) (drop (at + 1) s.now) force before }
 {
-    let found = decode(s, at);
-    match found {
-        Decoded::Unknown => bad(refusals::UNLISTED, 0),
-        Decoded::Cut(kind) => cut_short(kind, before),
+    match decode(s, at) {
+        Decoded::Unknown => Err(Refusal::of(Reason::Unlisted)),
+        Decoded::Cut(kind) => Err(cut_short(kind, before)),
         Decoded::Full(e) => permit(e, placed_at(e, force, s, at + entries::size_of(e)), before),
     }
 }
 
-// An entry behind so many others; it is placed well, or is an idle supplier.
-pub fn enter(e: Entry, well: bool, before: Tally) -> Entered
-    ensures { result ≡ shown_entered before (permitted e well before) }
+// The count with an entry more, or why it may not stand behind so many others; it is placed well, or is an idle supplier.
+pub fn enter(e: Entry, well: bool, before: Tally) -> Result<Tally, Refusal>
+    ensures { said result ≡ entered before (permitted e well before) }
 {
-    let step = permit(e, well, before);
-    match step {
-        Step::Took(_) => {
-            let kind = e.kind;
-            Entered::In(one_more(kind, before))
-        }
-        Step::Bad(why) => Entered::Out(why),
-    }
+    permit(e, well, before)?;
+    Ok(one_more(e.kind, before))
 }

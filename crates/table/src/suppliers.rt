@@ -28,8 +28,7 @@ pub fn supplying(s: u8) -> Entry
 pub fn behind(e: Entry, force: u8) -> u8
     ensures { result ≡ force_behind e.kind force e.a }
 {
-    let kind = e.kind;
-    match kind {
+    match e.kind {
         Kind::Row(_) => force,
         Kind::Question(_) => force,
         Kind::Constraint(_) => force,
@@ -44,8 +43,7 @@ pub fn change_size(force: u8, s: u8) -> usize
     if s == force {
         return 0;
     }
-    let mark = supplying(s);
-    entries::size_of(mark)
+    entries::size_of(supplying(s))
 }
 
 // An entry's bytes, behind those of a 60 where its supplier is another than the one in force, written onto the front of a lent output where they fit; their
@@ -61,7 +59,6 @@ pub fn put(out: &mut [u8], force: u8, s: u8, e: Entry) -> usize
     if s == force {
         return entries::put(out, e);
     }
-    let mark = supplying(s);
-    let n = entries::put(out, mark);
+    let n = entries::put(out, supplying(s));
     n + entries::put(&mut out[n..], e)
 }

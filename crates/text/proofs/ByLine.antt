@@ -9,28 +9,25 @@ use native.Mathlib.Numerals.{add-one}
 use lib.ListN.{length, drop, drop_of_length-le}
 use lib.Dec.{eqb}
 use Rattle.kinds.specs.declared.Kind.{Kind}
-use Rattle.kinds.specs.declared.Announced.{Announced}
-use Rattle.kinds.specs.declared.Announced.TheVariants.{Listed, Unlisted}
+use Rattle.std.specs.Prelude.{Option, Some, None, Ok, Err}
+use Rattle.entries.specs.declared.refusals.Refusal.{Refusal as Coded}
 use Rattle.kinds.specs.Kinds.{form_of, is_row, of_row}
 use Rattle.kinds.specs.Words.{kind_spelled}
 use Rattle.entries.specs.declared.Entry.{Entry}
-use Rattle.entries.specs.declared.refusals.Refusal.{Refusal}
-use Rattle.entries.specs.Refusals.{unknown_word, misspelt, of_spelling, is_among}
-use Rattle.entries.specs.Said.{Said, answered, refusing, refusal, unless, why_of}
+use Rattle.entries.specs.Said.{Refusal}
+use Rattle.entries.specs.Refusals.{number_of, unknown_word, misspelt, of_spelling, is_among}
+use Rattle.entries.specs.Said.{Said, answered, refusing, refusal, told, said as of_code, unless}
 use Rattle.entries.proofs.Numbers.{by_order}
 use Rattle.entries.proofs.Saying.{not_both}
-use Rattle.table.specs.declared.steps.Step.TheVariants.{Took, Bad}
 use Rattle.kinds.proofs.Spelling.{word_some, no_word}
-use Rattle.table.specs.Steps.{entry_of, begins_row, shown_step}
+use Rattle.table.specs.Steps.{entry_of, begins_row}
 use Rattle.table.specs.Contents.{written}
 use Rattle.table.proofs.Writing.{begins_own}
-use Rattle.table.proofs.Decoding.{took, turned_away}
 use Rattle.text.specs.declared.lines.Line.{Line}
-use Rattle.text.specs.Decimal.{value, too_large, well_spelled}
-use Rattle.text.specs.Lines.{space, line_feed}
+use Rattle.decimal.specs.Decimal.{value, too_large, well_spelled, space, line_feed}
 use Rattle.entries.specs.Lists.{some, every}
 use Rattle.text.specs.Texts.{Pieces, split, misspelling, line_by, line_says, on_line, last_says, lines_say, ended_by}
-use Rattle.text.specs.Inner.{row_spelled, line_from, said_from}
+use Rattle.text.specs.Inner.{row_spelled, Found, line_from, line_found, said_from, turned, bad_from}
 use Rattle.text.proofs.Splitting.{behind_some}
 use Rattle.text.proofs.OneLine.{Plain, line_written, line_kind}
 use Rattle.text.proofs.Scanning.{more_behind, line_whole, line_last}
@@ -75,7 +72,7 @@ module _ (text : List ℕ) (at n : ℕ) (inside : at < length text) where
   abbrev lines : Pieces
   lines = split line_feed (drop at text)
 
-  abbrev pub here : Line
+  abbrev pub here : Found
   here = line_from at lines
 
   abbrev end : ℕ
@@ -103,41 +100,61 @@ module _ (text : List ℕ) (at n : ℕ) (inside : at < length text) where
     pub plain : Plain e
     pub row : row_spelled (drop at text) ≡ is_row e.kind
 
-  pub good_line : (e : Entry) → here.said ≡ Took e → Good e
+  good_line : (e : Entry) → here.said ≡ answered e → Good e
   good_line e q =
       by_order end (length text)
       (λ l.
       let line = line_whole text at end refl l in
-      let next = ap (λ (x : Line). x.next) line in
-      let was = took (line_says lines.first) e (sym (ap (λ (x : Line). x.said) line) ∙ q) in record {
+      let next = ap (λ (x : Found). x.next) line in
+      let was : line_says lines.first ≡ answered e = sym (ap (λ (x : Found). x.said) line) ∙ q in record {
         says = whole l ∙ rw (was, next);
         forth = omega (arith, next);
         within = omega (arith, next, l);
         plain = (line_written lines.first e was).1;
         row = row_of_line (drop at text) e was;
       })
-      (λ l. absurd (never_took (line_says lines.first) (sym (ap (λ (x : Line). x.said) (line_last text at end refl l)) ∙ q)))
+      (λ l. absurd (never_took (line_says lines.first) (sym (ap (λ (x : Found). x.said) (line_last text at end refl l)) ∙ q)))
     where
-      never_took : (x : Said Entry) → shown_step (ended_by [] x) ≡ Took e → ⊥
-      never_took (answered f) q = not_both (sym (took _ e q))
-      never_took (refusing why) q = not_both (sym (took _ e q))
+      never_took : (x : Said Entry) → ended_by [] x ≡ answered e → ⊥
+      never_took (answered f) q = not_both (sym q)
+      never_took (refusing why) q = not_both (sym q)
 
-  pub bad_line : (why : Refusal) → here.said ≡ Bad why → said_from n (drop at text) ≡ refusing (refusal why.number n)
+  bad_line : (why : Refusal) → here.said ≡ refusing why → said_from n (drop at text) ≡ refusing (refusal why.number n)
   unfolding on_line
   bad_line why q =
       by_order end (length text)
       (λ l.
-      let was = turned_away (line_says lines.first) why (sym (ap (λ (x : Line). x.said) (line_whole text at end refl l)) ∙ q) in
+      let was : line_says lines.first ≡ refusing why = sym (ap (λ (x : Found). x.said) (line_whole text at end refl l)) ∙ q in
       whole l ∙ rw was)
       (λ l.
-      let was = turned_away (ended_by [] (line_says lines.first)) why (sym (ap (λ (x : Line). x.said) (line_last text at end refl l)) ∙ q) in
+      let was : ended_by [] (line_says lines.first) ≡ refusing why = sym (ap (λ (x : Found). x.said) (line_last text at end refl l)) ∙ q in
       last l ∙ rw was)
 
--- behind a line that is spelled well, the first bad line is the others'
-pub why_behind : (n : ℕ) (e : Entry) (rest : Said (List Entry)) → why_of (on_line n (answered e) rest) ≡ why_of rest
-unfolding on_line
-why_behind n e (answered es) = refl
-why_behind n e (refusing why) = refl
+-- the same of the line that the code found at a place
+module _ (text : List ℕ) (at n : ℕ) (inside : at < length text) (found : Line) (f : line_found found ≡ line_from at (split line_feed (drop at text))) where
+  pub next_found : found.next ≡ (here text at n inside).next
+  next_found = ap (λ (l : Found). l.next) f
+
+  said_found : of_code found.said ≡ (here text at n inside).said
+  said_found = ap (λ (l : Found). l.said) f
+
+  pub good_found : (e : Entry) → found.said ≡ Ok e → Good text at n inside e
+  good_found e q = good_line text at n inside e (sym said_found ∙ ap of_code q)
+
+  pub bad_found : (why : Coded) → found.said ≡ Err why → said_from n (drop at text) ≡ refusing (refusal (number_of why.reason) n)
+  bad_found why q = bad_line text at n inside (told why) (sym said_found ∙ ap of_code q)
+
+  -- a line that is spelled well is passed, and the first bad line is behind it
+  pub passed : (e : Entry) → found.said ≡ Ok e → (at < found.next) × (found.next ≤ length text)
+  passed e q = let good = good_found e q in (omega (arith, good.forth, next_found), omega (arith, good.within, next_found))
+
+  pub bad_behind : (e : Entry) → found.said ≡ Ok e → bad_from n (drop at text) ≡ bad_from (n + 1) (drop found.next text)
+  unfolding on_line
+  bad_behind e q = rw (next_found, add-one n) (ap turned (good_found e q).says ∙ go (said_from (suc n) (drop (here text at n inside).next text)))
+    where
+      go : (rest : Said (List Entry)) → turned (on_line n (answered e) rest) ≡ turned rest
+      go (answered es) = refl
+      go (refusing why) = refl
 
 -- a refusal of a line is 12 or 13
 abbrev pub IsSpelling : ℕ → Type 0
@@ -153,9 +170,9 @@ line_number line why q = go (kind_spelled (split space line).first) q
     by kind false true x e q = not_both (sym e ∙ q)
     by kind false false x e q = let same : refusal misspelt 0 ≡ why = cc in rw (← same) refl
 
-    go : (a : Announced) → line_by a (split space line).more ≡ refusing why → IsSpelling why.number
-    go Unlisted q = let same : refusal unknown_word 0 ≡ why = cc in rw (← same) refl
-    go (Listed kind) q =
+    go : (a : Option Kind) → line_by a (split space line).more ≡ refusing why → IsSpelling why.number
+    go None q = let same : refusal unknown_word 0 ≡ why = cc in rw (← same) refl
+    go (Some kind) q =
         let ps = (split space line).more in
         by kind (some too_large ps) (eqb (length ps) (form_of kind).numbers && every well_spelled ps) (answered (entry_of kind (map value ps))) refl q
 

@@ -13,7 +13,7 @@ use Rattle.table.specs.Steps.{body_of, decoded, no_room, offending, placed, perm
 use Rattle.table.specs.Suppliers.{marked, last_of}
 use Rattle.table.specs.Contents.{written}
 use Rattle.table.specs.Reading.{after, read_on, reading}
-use Rattle.text.specs.Decimal.{decimal, value, too_large, well_spelled}
+use Rattle.decimal.specs.Decimal.{decimal, value, too_large, well_spelled}
 use Rattle.text.specs.Lines.{line_of, text_of}
 use Rattle.text.specs.Texts.{split, misspelling, line_says, on_line, lines_say, spelled}
 use Rattle.text.specs.Calls.{to_text, line_at, from_text}

@@ -8,15 +8,11 @@ use native.Mathlib.Omega.{arith}
 use native.Mathlib.Numerals.{add-one}
 use lib.ListN.{length, take, drop, length-append, length-drop, drop_of_length-le}
 use lib.Seq.{take-append_seam, take-append-add, length-take-le}
-use borrow.Author.Tests.{ne_eqb}
 use borrow.Rule.Slice.PartMut.{put_mid, mid_of}
-use Rattle.belnap.proofs.Finite.{never}
 use Rattle.kinds.specs.declared.Kind.{Kind}
 use Rattle.kinds.specs.declared.Kind.TheVariants.{Row, Question, Constraint, Supplier}
 use Rattle.entries.specs.declared.Entry.{Entry}
-use Rattle.entries.specs.declared.refusals.Refusal.{Refusal}
-use Rattle.entries.specs.Refusals.{of_spelling, is_among}
-use Rattle.entries.specs.Said.{Said, answered, refusing, refusal, and_then, why_of}
+use Rattle.entries.specs.Said.{Said, Refusal, answered, refusing, refusal, and_then}
 use Rattle.entries.specs.Entries.{size_of, bytes_of, onto}
 use Rattle.entries.proofs.OneEntry.{size}
 use Rattle.entries.proofs.Putting.{put_behind}
@@ -30,12 +26,19 @@ use Rattle.table.proofs.Permission.{refused_inside}
 use Rattle.table.proofs.Writing.{Whole, Open, calm, settled_same, none_whole, whole_open, written_append, whole_accepted}
 use Rattle.table.proofs.Turns.{with_force}
 use Rattle.table.proofs.Laws.{open_short}
-use Rattle.text.specs.Lines.{line_feed}
+use Rattle.decimal.specs.Decimal.{line_feed}
 use Rattle.text.specs.Texts.{on_line, spelled, split}
 use Rattle.text.specs.Calls.{line_at, by_line, from_text}
-use Rattle.text.specs.Inner.{row_spelled, said_from, bad_from, own_unless, gather_limit}
+use Rattle.text.specs.Inner.{row_spelled, said_from, bad_from, own_unless, turned, line_from, line_found, gather_limit, Gathers}
+use Rattle.text.specs.declared.lines.Line.{Line}
+use Rattle.std.specs.Prelude.{Result, Ok, Err}
+use Rattle.entries.specs.declared.refusals.Refusal.{Refusal as Coded}
+use Rattle.entries.specs.Refusals.{number_of}
+use Rattle.entries.specs.Said.{told as told_by, said as of_code}
+use Rattle.table.specs.Steps.{entered}
+use Rattle.table.proofs.Decoding.{entered_more, kept_out}
 use Rattle.text.proofs.Judging.{in_open, in_entries, in_bytes, out_reading, line_of_place}
-use Rattle.text.proofs.ByLine.{no_line, no_row, row_follows, here, Good, lines_number}
+use Rattle.text.proofs.ByLine.{no_line, no_row, row_follows, here, Good, next_found, good_found, bad_found, passed}
 
 -- an entry's bytes put behind the first ones of an array that has room for them
 module _ (bytes : List ℕ) (e : Entry) (at : ℕ) (room : at + size_of e ≤ length bytes) (k : ℕ) (ys : List ℕ) (ke : k ≡ length bytes - at)
@@ -43,7 +46,7 @@ module _ (bytes : List ℕ) (e : Entry) (at : ℕ) (room : at + size_of e ≤ le
   stored : put_mid at k bytes ys ≡ take at bytes ++ (bytes_of e ++ drop (size_of e) (drop at bytes))
   stored = put_behind bytes (bytes_of e) at k ys room ke ye
 
-  pub put_front : take (at + size_of e) (put_mid at k bytes ys) ≡ take at bytes ++ bytes_of e
+  put_front : take (at + size_of e) (put_mid at k bytes ys) ≡ take at bytes ++ bytes_of e
   put_front =
       let long : length (take at bytes) ≡ at = length-take-le at bytes (omega arith) in
       let rest = drop (size_of e) (drop at bytes) in
@@ -52,7 +55,7 @@ module _ (bytes : List ℕ) (e : Entry) (at : ℕ) (room : at + size_of e ≤ le
       ∙ take-append-add (take at bytes) (bytes_of e ++ rest) (size_of e)
       ∙ ap (λ (l : List ℕ). take at bytes ++ l) (take-append_seam (bytes_of e) rest)
 
-  pub put_length : length (put_mid at k bytes ys) ≡ length bytes
+  put_length : length (put_mid at k bytes ys) ≡ length bytes
   put_length =
       ap length stored ∙ length-append (take at bytes) (bytes_of e ++ drop (size_of e) (drop at bytes))
       ∙ omega (
@@ -83,7 +86,7 @@ pub record So (text bytes : List ℕ) (count : ℕ) (counts : Tally) (force line
   pub front : take count bytes ≡ encoded table
 
 -- the same, by other names
-pub so_as : {text bytes : List ℕ} {count : ℕ} {counts : Tally} {force line at : ℕ} → So text bytes count counts force line at →
+so_as : {text bytes : List ℕ} {count : ℕ} {counts : Tally} {force line at : ℕ} → So text bytes count counts force line at →
     (count' : ℕ) (counts' : Tally) (force' at' : ℕ) → count' ≡ count → counts' ≡ counts → force' ≡ force → at' ≡ at →
     So text bytes count' counts' force' line at'
 so_as so count' counts' force' at' p q f r = rw (p, q, f, r) so
@@ -125,7 +128,7 @@ module _ {text bytes : List ℕ} {count : ℕ} {counts : Tally} {force line at :
       let none : row_spelled (drop at text) ≡ false = ap row_spelled (drop_of_length-le text l) ∙ no_row in
       rw (settled_same so.table (calm so.table (row_spelled (drop at text)) so.stands.awaits none)) at so.stands.whole
 
-  pub at_end : length text ≤ at → from_text text ≡ answered (encoded so.table)
+  at_end : length text ≤ at → from_text text ≡ answered (encoded so.table)
   unfolding from_text spelled said_from
   at_end l =
       let all : spelled text ≡ answered (entries so.table) =
@@ -133,7 +136,7 @@ module _ {text bytes : List ℕ} {count : ℕ} {counts : Tally} {force line at :
       rw (all, whole_accepted so.table (whole_end l))
 
   -- at a bad line: its refusal
-  pub at_bad : (why : Refusal) → said_from line (drop at text) ≡ refusing why → from_text text ≡ refusing why
+  at_bad : (why : Refusal) → said_from line (drop at text) ≡ refusing why → from_text text ≡ refusing why
   unfolding from_text spelled said_from
   at_bad why q = let all : spelled text ≡ refusing why = so.says ∙ ap (before (entries so.table)) q in rw all
 
@@ -157,7 +160,7 @@ module _ {text bytes : List ℕ} {count : ℕ} {counts : Tally} {force line at :
     abbrev follows : Bool
     follows = row_spelled (drop next text)
 
-    abbrev pub said : Said Entry
+    abbrev said : Said Entry
     said = permitted e (placed e force follows) counts
 
     by_table : said ≡ permitted e (placed e so.table.supplier follows) (tally_of so.table)
@@ -167,7 +170,7 @@ module _ {text bytes : List ℕ} {count : ℕ} {counts : Tally} {force line at :
     stands_here = rw good.row at so.stands
 
     -- whose entry may stand there: with its bytes behind the others
-    pub taken : (f : Entry) → said ≡ answered f → (bytes' : List ℕ) → length bytes' ≡ length bytes →
+    taken : (f : Entry) → said ≡ answered f → (bytes' : List ℕ) → length bytes' ≡ length bytes →
         take (count + size_of e) bytes' ≡ take count bytes ++ bytes_of e →
         So text bytes' (count + size_of e) (one_more e.kind counts) (force_behind e.kind force e.a) (line + 1) next
     taken f q bytes' long' front' =
@@ -189,7 +192,7 @@ module _ {text bytes : List ℕ} {count : ℕ} {counts : Tally} {force line at :
         }
 
     -- there is room for them
-    pub has_room : (f : Entry) → said ≡ answered f → count + size_of e ≤ length bytes
+    has_room : (f : Entry) → said ≡ answered f → count + size_of e ≤ length bytes
     has_room f q =
         let c = so.table in
         let may = sym by_table ∙ q in
@@ -203,7 +206,7 @@ module _ {text bytes : List ℕ} {count : ℕ} {counts : Tally} {force line at :
     unfolding from_text spelled said_from written
     stopped why q = rw (add-one line) (go rest refl)
       where
-        go : (x : Said (List Entry)) → rest ≡ x → from_text text ≡ refusing (own_unless (refusal why.number line) (why_of x))
+        go : (x : Said (List Entry)) → rest ≡ x → from_text text ≡ refusing (own_unless (refusal why.number line) (turned x))
         go (answered fs) r =
             let c = so.table in
             let es = entries c ++ (e ∷ fs) in
@@ -218,7 +221,57 @@ module _ {text bytes : List ℕ} {count : ℕ} {counts : Tally} {force line at :
             ∙ ap (λ (l : ℕ). refusing (refusal why.number l)) place)
         go (refusing w) r =
             let all : spelled text ≡ refusing w = behind ∙ ap (before (entries so.table ++ (e ∷ []))) r in
-            let lines = split line_feed (drop next text) in
-            let some : w.number ≡ 0 → ⊥ = λ z. never (sym (ap (is_among of_spelling) (sym z) ∙ lines_number
-            lines.more (suc line) lines.first w r)) in
-            rw (all, ne_eqb w.number 0 some)
+            rw all
+
+-- a turn of the loop, by what the code has: the line that it found
+module _ {text bytes : List ℕ} {count : ℕ} {counts : Tally} {force line at : ℕ} (so : So text bytes count counts force line at) (inside : at < length text)
+    (found : Line) (f : line_found found ≡ line_from at (split line_feed (drop at text))) where
+  pub turn_bad : (why : Coded) → found.said ≡ Err why → from_text text ≡ refusing (refusal (number_of why.reason) line)
+  turn_bad why q = at_bad so (refusal (number_of why.reason) line) (bad_found text at line inside found f why q)
+
+  -- an entry, where the next line begins, and what the code was told of the entry
+  module _ (e : Entry) (q : found.said ≡ Ok e) where
+    good : Good text at line inside e
+    good = good_found text at line inside found f e q
+
+    next_is : found.next ≡ (here text at line inside).next
+    next_is = next_found text at line inside found f
+
+    pub turn_next : (at < found.next) × (found.next ≤ length text) × (line ≤ found.next)
+    turn_next = let next = passed text at line inside found f e q in (next.0, next.1, omega (arith, so.few, next.0))
+
+    module _ (well : Bool) (w : well ≡ placed e force (row_spelled (drop found.next text))) (x : Result Tally Coded)
+        (judged : of_code x ≡ entered counts (permitted e well counts)) where
+      told : of_code x ≡ entered counts (said so inside e good)
+      told =
+          judged
+          ∙ ap (λ (g : Bool). entered counts (permitted e g counts)) (w ∙ ap (λ (n : ℕ). placed e force (row_spelled (drop n text))) next_is)
+
+      pub turn_out : (why : Coded) → x ≡ Err why →
+          from_text text ≡ refusing (own_unless (refusal (number_of why.reason) line) (bad_from (line + 1) (drop found.next text)))
+      turn_out why o =
+          rw next_is (stopped so inside e good (told_by why) (kept_out (said so inside e good) counts (told_by why) (sym (ap of_code o) ∙ told)))
+
+      module _ (more : Tally) (i : x ≡ Ok more) where
+        may : (said so inside e good ≡ answered e) × (more ≡ one_more e.kind counts)
+        may = entered_more e _ counts more (sym (ap of_code i) ∙ told)
+
+        pub turn_room : count + size_of e ≤ gather_limit
+        turn_room = omega (arith, has_room so inside e good e may.0, so.there)
+
+        pub turn_in : (k n force' : ℕ) (ys : List ℕ) → k ≡ gather_limit - count → ys ≡ onto (bytes_of e) (mid_of count k bytes) → n ≡ size_of e →
+            force' ≡ force_behind e.kind force e.a → So text (put_mid count k bytes ys) (count + n) more force' (line + 1) found.next
+        turn_in k n force' ys ke ye size b =
+            let room : count + size_of e ≤ length bytes = omega (arith, turn_room, so.there) in
+            let k : k ≡ length bytes - count = omega (arith, ke, so.there) in
+            let next = taken so inside e good e may.0 _ (put_length bytes e count room _ ys k ye) (put_front bytes e count room _ ys k ye) in
+            so_as next _ _ _ _ (ap (λ (n : ℕ). count + n) size) may.1 b next_is
+
+-- at the end: a table's bytes
+pub gathered : {text bytes : List ℕ} {count : ℕ} {counts : Tally} {force line at : ℕ} → So text bytes count counts force line at → length text ≤ at →
+    Gathers (from_text text) (record { bytes = bytes; length = count })
+gathered so end =
+    let short = open_short so.table _ so.stands in record {
+      holds = record { fits = omega (arith, so.long, short); there = omega (arith, so.there) };
+      says = at_end so end ∙ ap answered (sym so.front);
+    }

@@ -1,8 +1,6 @@
 -- Laws of texts; below this file, a folder for each function that has a proof of its own.
 pub mod Examples
-pub mod Numerals
 pub mod Splitting
-pub mod Stores
 pub mod Filling
 pub mod OneLine
 pub mod Scanning

@@ -11,8 +11,7 @@ use lib.Dec.{eqb, ltb}
 use borrow.Author.Tests.{eqb-true, eq-eqb, leb-false, lt-ltb}
 use Rattle.belnap.proofs.Finite.{both_parts, neither}
 use Rattle.kinds.specs.declared.Kind.{Kind}
-use Rattle.kinds.specs.declared.Announced.{Announced}
-use Rattle.kinds.specs.declared.Announced.TheVariants.{Listed, Unlisted}
+use Rattle.std.specs.Prelude.{Option, Some, None}
 use Rattle.kinds.specs.Kinds.{form_of}
 use Rattle.kinds.specs.Words.{word_of, kind_spelled}
 use Rattle.kinds.proofs.Spelling.{above, kind_of_word, word_of_kind, word_plain}
@@ -20,17 +19,16 @@ use Rattle.entries.specs.declared.Entry.{Entry}
 use Rattle.entries.specs.Refusals.{unknown_word, misspelt}
 use Rattle.entries.specs.Said.{answered}
 use Rattle.entries.specs.Entries.{number_limit, numbers_of, numbers_in}
-use Rattle.entries.proofs.Numbers.{by_order}
 use Rattle.entries.proofs.OneEntry.{few, length_front}
 use Rattle.entries.proofs.Saying.{not_both, unless_none, unless_answered}
 use Rattle.table.specs.Steps.{number_at, entry_of}
 use Rattle.table.specs.Whole.{Tidy}
 use Rattle.table.proofs.Writing.{front_of, trim, number_front}
-use Rattle.text.specs.Decimal.{is_digit, decimal, digits_alone, value, too_large, well_spelled}
-use Rattle.text.specs.Lines.{space, line_feed, each, line_of}
+use Rattle.decimal.specs.Decimal.{is_digit, decimal, digits_alone, value, too_large, well_spelled, space, line_feed}
+use Rattle.text.specs.Lines.{each, line_of}
 use Rattle.entries.specs.Lists.{some, every}
 use Rattle.text.specs.Texts.{Pieces, split, misspelling, line_by, line_says}
-use Rattle.text.proofs.Numerals.{digit_of, decimal_alone, value_decimal, decimal_well, decimal_small, decimal_value}
+use Rattle.decimal.proofs.Numerals.{digit_of, decimal_alone, value_decimal, decimal_well, decimal_small, decimal_value}
 use Rattle.text.proofs.Splitting.{split_joined, free, above_free, split_each}
 
 -- an entry whose numbers are bytes, 0 where its kind has none
@@ -113,7 +111,7 @@ line_read e p =
     let good : misspelling kind (map decimal ns) ≡ 0 =
     rw (front_small (numbers_of e) e.a e.b (few kind) p.first p.second, eq-eqb _ _ count, pieces_well ns) in
     ap (λ (p : Pieces). line_by (kind_spelled p.first) p.more) cut
-    ∙ ap (λ (a : Announced). line_by a (map decimal ns)) (kind_of_word kind)
+    ∙ ap (λ (a : Option Kind). line_by a (map decimal ns)) (kind_of_word kind)
     ∙ unless_none (misspelling kind (map decimal ns)) (answered (entry_of kind (map value (map decimal ns)))) good
     ∙ ap (λ (ns : List ℕ). answered (entry_of kind ns)) (pieces_back ns) ∙ ap answered (entry_back e p.tidy)
 
@@ -190,9 +188,9 @@ pub line_written : (l : List ℕ) (e : Entry) → line_says l ≡ answered e →
 unfolding line_says
 line_written l e q = go (kind_spelled (split space l).first) refl q
   where
-    go : (a : Announced) → kind_spelled (split space l).first ≡ a → line_by a (split space l).more ≡ answered e → (l ≡ line_body e) × Plain e
-    go Unlisted k q = not_both (sym q)
-    go (Listed kind) k q =
+    go : (a : Option Kind) → kind_spelled (split space l).first ≡ a → line_by a (split space l).more ≡ answered e → (l ≡ line_body e) × Plain e
+    go None k q = not_both (sym q)
+    go (Some kind) k q =
         let ps = (split space l).more in
         let said = unless_answered (misspelling kind ps) (answered (entry_of kind (map value ps))) e q in
         let h = spelt kind ps said.0 in
@@ -203,31 +201,26 @@ line_written l e q = go (kind_spelled (split space l).first) refl q
         rw (← one) (body, read_plain kind ps h)
 
 -- and its word is that of the entry's kind
-pub line_kind : (l : List ℕ) (e : Entry) → line_says l ≡ answered e → kind_spelled (split space l).first ≡ Listed e.kind
+pub line_kind : (l : List ℕ) (e : Entry) → line_says l ≡ answered e → kind_spelled (split space l).first ≡ Some e.kind
 unfolding line_says
 line_kind l e q = go (kind_spelled (split space l).first) q
   where
-    go : (a : Announced) → line_by a (split space l).more ≡ answered e → a ≡ Listed e.kind
-    go Unlisted q = not_both (sym q)
-    go (Listed kind) q =
+    go : (a : Option Kind) → line_by a (split space l).more ≡ answered e → a ≡ Some e.kind
+    go None q = not_both (sym q)
+    go (Some kind) q =
         let ps = (split space l).more in
         let said = unless_answered (misspelling kind ps) (answered (entry_of kind (map value ps))) e q in
         let one : entry_of kind (map value ps) ≡ e = cc said.1 in
-        ap (λ (e : Entry). Listed e.kind) one
+        ap (λ (e : Entry). Some e.kind) one
 
--- an entry's numbers with a space before each, by how many there are
+-- an entry's numbers with a space before each
 abbrev pub numbers_text : Entry → List ℕ
 numbers_text e = each space (map decimal (numbers_in e))
 
+-- where there are two of them
 module _ (e : Entry) where
   abbrev front : ℕ → List ℕ
   front n = each space (map decimal (take n (e.a ∷ e.b ∷ [])))
-
-  pub no_numbers : numbers_of e ≡ 0 → numbers_text e ≡ []
-  no_numbers q = ap front q
-
-  pub one_number : numbers_of e ≡ 1 → numbers_text e ≡ each space (decimal e.a ∷ [])
-  one_number q = ap front q
 
   pub two_numbers : (numbers_of e ≡ 0 → ⊥) → (numbers_of e ≡ 1 → ⊥) →
       numbers_text e ≡ each space (decimal e.a ∷ []) ++ each space (decimal e.b ∷ [])
@@ -235,17 +228,7 @@ module _ (e : Entry) where
       let two : numbers_of e ≡ 2 = omega (arith, h, k, few e.kind) in
       ap front two ∙ ap (λ (l : List ℕ). space ∷ (l ++ each space (decimal e.b ∷ []))) (sym (append-nil (decimal e.a)))
 
--- how long a number is with the space before it, and the numbers
-pub number_long : (n : ℕ) → length (each space (decimal n ∷ [])) ≡ length (decimal n) + 1
-number_long n = rw (append-nil (decimal n)) (omega arith)
-
+-- how long a line is
 pub line_long : (e : Entry) → length (line_of e) ≡ length (word_of e.kind) + length (numbers_text e) + 1
 unfolding line_of
 line_long e = length-append (line_body e) (line_feed ∷ []) ∙ ap (λ (n : ℕ). n + 1) (length-append (word_of e.kind) (numbers_text e))
-
-pub first_fits : (e : Entry) → (numbers_of e ≡ 0 → ⊥) → length (each space (decimal e.a ∷ [])) ≤ length (numbers_text e)
-first_fits e h =
-    by_order (numbers_of e) 2
-    (λ l. let one : numbers_of e ≡ 1 = omega (arith, h) in omega (arith, ap length (one_number e one)))
-    (λ l. let x = each space (decimal e.a ∷ []) in let y = each space (decimal e.b ∷ []) in
-    omega (arith, ap length (two_numbers e h (λ q. omega arith)), length-append x y))

@@ -25,7 +25,8 @@ use Rattle.table.specs.Contents.{Contents, last_supplier, entries}
 use Rattle.table.specs.Whole.{Sound, Each, Whole, SupplierAt}
 use Rattle.table.proofs.Permission.{fits_below}
 use Rattle.table.proofs.Marking.{unchanged}
-use Rattle.text.specs.Lines.{line_feed, each, text_of}
+use Rattle.decimal.specs.Decimal.{line_feed}
+use Rattle.text.specs.Lines.{each, text_of}
 use Rattle.text.specs.Texts.{Pieces, split, line_says, on_line, lines_say, spelled, ended_by}
 use Rattle.text.specs.Inner.{said_from}
 use Rattle.text.proofs.Splitting.{split_joined, split_next}

@@ -9,9 +9,9 @@ use native.Mathlib.Omega.{arith}
 use lib.ListN.{length, length-append}
 use Rattle.belnap.proofs.Finite.{never, both_parts}
 use Rattle.entries.specs.declared.Entry.{Entry}
-use Rattle.entries.specs.declared.refusals.Refusal.{Refusal}
+use Rattle.entries.specs.Said.{Refusal}
 use Rattle.entries.specs.Refusals.{misspelt, of_entries, of_spelling, is_among}
-use Rattle.entries.specs.Said.{Said, answered, refusing, refusal, and_then, why_of}
+use Rattle.entries.specs.Said.{Said, answered, refusing, refusal, and_then}
 use Rattle.entries.proofs.Saying.{not_both}
 use Rattle.entries.specs.Entries.{size_of}
 use Rattle.entries.proofs.OneEntry.{size}
@@ -21,8 +21,8 @@ use Rattle.table.specs.Contents.{Contents, none, tally_of, settled, written, enc
 use Rattle.table.specs.Reading.{reading}
 use Rattle.table.proofs.Permission.{permitted_own, refused_inside}
 use Rattle.table.proofs.Writing.{none_whole, whole_open, whole_accepted}
-use Rattle.table.proofs.Speaking.{refused_at, not_zero}
-use Rattle.text.specs.Lines.{line_feed, each, line_of, text_of}
+use Rattle.decimal.specs.Decimal.{line_feed}
+use Rattle.text.specs.Lines.{each, line_of, text_of}
 use Rattle.entries.specs.Lists.{every}
 use Rattle.text.specs.Texts.{Pieces, split, line_says, on_line, lines_say, spelled, ended_by}
 use Rattle.text.specs.Calls.{line_at, by_line, from_text}
@@ -61,14 +61,6 @@ refused_by text why q = go (spelled text) refl q
 pub spelling_number : (text : List ℕ) (why : Refusal) → spelled text ≡ refusing why → IsSpelling why.number
 unfolding spelled
 spelling_number text why q = let lines = split line_feed text in lines_number lines.more 1 lines.first why q
-
--- none has the number 0, which stands for no refusal
-pub some_number : (text : List ℕ) (why : Refusal) → from_text text ≡ refusing why → why.number ≡ 0 → ⊥
-some_number text why q z =
-    ⊎_elim
-    (λ s. never (sym (ap (is_among of_spelling) (sym z) ∙ spelling_number text why s)))
-    (λ own. not_zero (written own.entries) why.number own.at (refused_at (written own.entries) why.number own.at own.refuses) z)
-    (refused_by text why q)
 
 -- a bad line: the lines before it are those of entries
 record Bad (n : ℕ) (s : List ℕ) (why : Refusal) : Type 0 where
@@ -193,21 +185,6 @@ bad_entry text why own =
       brings = b.refuses ∙ ap refusing same;
       refuses = ap (λ (es : List Entry). reading (written es)) (sym b.parts) ∙ own.refuses ∙ ap (λ (p : ℕ). refusing (refusal why.number p)) at;
     }
-
--- so the number tells an answer from a refusal
-pub told_answered : (text : List ℕ) → (why_of (from_text text)).number ≡ 0 → (bytes : List ℕ) × (from_text text ≡ answered bytes)
-told_answered text h = go (from_text text) refl h
-  where
-    go : (x : Said (List ℕ)) → from_text text ≡ x → (why_of x).number ≡ 0 → (bytes : List ℕ) × (from_text text ≡ answered bytes)
-    go (answered bytes) q h = (bytes, q)
-    go (refusing why) q h = absurd (some_number text why q h)
-
-pub told_refused : (text : List ℕ) → ((why_of (from_text text)).number ≡ 0 → ⊥) → from_text text ≡ refusing (why_of (from_text text))
-told_refused text h = go (from_text text) h
-  where
-    go : (x : Said (List ℕ)) → ((why_of x).number ≡ 0 → ⊥) → x ≡ refusing (why_of x)
-    go (answered bytes) h = absurd (h refl)
-    go (refusing why) h = refl
 
 -- nor has one that is due the number 0
 pub due_some : (text : List ℕ) (n line : ℕ) → DueText text n line → n ≡ 0 → ⊥

@@ -5,11 +5,14 @@ use mathlib.Core.Bool.{Bool, true, false, cond, not}
 use mathlib.Core.List.{List, [], ◌∷◌, ◌++◌, append-nil}
 use Prim.Native.Nat.{ℕ, suc, ◌+◌, ◌≤◌, ◌<◌}
 use native.Mathlib.Omega.{arith}
-use lib.ListN.{length, get_or, take, drop, drop_of_length-le}
-use native.Mathlib.Numerals.{add-one}
+use lib.ListN.{length, take, drop}
 use lib.Seq.{drop-cons}
 use lib.Dec.{eqb, ltb}
-use borrow.Author.Tests.{eqb-true, eq-eqb, ne_eqb, not-true, ltb-true}
+use Rattle.std.specs.Prelude.{Option, Some, None, unwrap_or}
+use Rattle.std.specs.List.{position_or_len}
+use Rattle.std.proofs.lemmas.List.Recursion.{is_position_or_len}
+use Rattle.entries.proofs.Numbers.{by_order}
+use borrow.Author.Tests.{lt-ltb, le-ltb, eqb-true, eq-eqb, ne_eqb, not-true, ltb-true}
 use Rattle.belnap.proofs.Finite.{both_parts, never}
 use Rattle.kinds.proofs.Spelling.{above}
 use Rattle.text.specs.Lines.{each}
@@ -18,11 +21,11 @@ use Rattle.text.specs.Texts.{Pieces, pieces, split}
 use Rattle.text.specs.Inner.{pieces_behind}
 
 -- at a separator, and at another byte
-pub split_at : (sep x : ℕ) (s : List ℕ) → x ≡ sep → split sep (x ∷ s) ≡ pieces [] ((split sep s).first ∷ (split sep s).more)
+split_at : (sep x : ℕ) (s : List ℕ) → x ≡ sep → split sep (x ∷ s) ≡ pieces [] ((split sep s).first ∷ (split sep s).more)
 unfolding split
 split_at sep x s q = rw (eq-eqb x sep q)
 
-pub split_past : (sep x : ℕ) (s : List ℕ) → (x ≡ sep → ⊥) → split sep (x ∷ s) ≡ pieces (x ∷ (split sep s).first) (split sep s).more
+split_past : (sep x : ℕ) (s : List ℕ) → (x ≡ sep → ⊥) → split sep (x ∷ s) ≡ pieces (x ∷ (split sep s).first) (split sep s).more
 unfolding split
 split_past sep x s h = rw (ne_eqb x sep h)
 
@@ -55,6 +58,26 @@ split_front sep =
 pub first_within : (sep : ℕ) (s : List ℕ) → length (split sep s).first ≤ length s
 first_within sep = split_law sep (λ s p. length p.first ≤ length s) (omega arith) (λ s h. omega arith) (λ x s h. omega arith)
 
+-- the first piece ends where the first separator stands, or at the end
+first_place : (sep : ℕ) (s : List ℕ) → length (split sep s).first ≡ position_or_len (λ x. eqb x sep) s
+unfolding split
+first_place sep = is_position_or_len (λ s. length (split sep s).first) (λ x. eqb x sep) refl (λ x s. go x s (eqb x sep))
+  where
+    go : (x : ℕ) (s : List ℕ) (b : Bool) →
+        length (cond b (pieces [] ((split sep s).first ∷ (split sep s).more)) (pieces (x ∷ (split sep s).first) (split sep s).more)).first
+        ≡ cond b 0 (1 + length (split sep s).first)
+    go x s true = refl
+    go x s false = omega arith
+
+pub first_found : (sep : ℕ) (s : List ℕ) (r : Option ℕ) →
+    r ≡ cond (ltb (position_or_len (λ x. eqb x sep) s) (length s)) (Some (position_or_len (λ x. eqb x sep) s)) None →
+    unwrap_or r (length s) ≡ length (split sep s).first
+first_found sep s r q =
+    let place = first_place sep s in
+    by_order (position_or_len (λ x. eqb x sep) s) (length s)
+    (λ l. rw (q, lt-ltb _ _ l) (sym place))
+    (λ l. rw (q, le-ltb _ _ l) (omega (arith, place, first_within sep s)))
+
 -- behind a place where something stands, a piece begins
 pub behind_some : (sep : ℕ) (s : List ℕ) (k : ℕ) → k < length s →
     pieces_behind sep (drop k s) ≡ (split sep (drop (suc k) s)).first ∷ (split sep (drop (suc k) s)).more
@@ -76,7 +99,7 @@ free_parts sep x l h =
     (λ q. never (sym (eq-eqb x sep q) ∙ not-true (eqb x sep) parts.0), parts.1)
 
 -- joined pieces without a separator in them are cut again
-pub split_free : (sep : ℕ) (l : List ℕ) → free sep l ≡ true → split sep l ≡ pieces l []
+split_free : (sep : ℕ) (l : List ℕ) → free sep l ≡ true → split sep l ≡ pieces l []
 unfolding split
 split_free sep [] h = refl
 split_free sep (x ∷ l) h =
@@ -96,18 +119,6 @@ split_each sep l (p ∷ more) h a =
     let parts = both_parts (free sep p) (every (free sep) more) a in
     split_next sep l (p ++ each sep more) h
     ∙ ap (λ (q : Pieces). pieces l (q.first ∷ q.more)) (split_each sep p more parts.0 parts.1)
-
--- the length of the first piece from a place on: none at a separator or at the end, and one more than behind another byte
-pub first_here : (sep : ℕ) (s : List ℕ) (i : ℕ) → i < length s → get_or s i 0 ≡ sep → length (split sep (drop i s)).first ≡ 0
-first_here sep s i l q = rw (drop-cons s i 0 l, split_at sep (get_or s i 0) (drop (suc i) s) q)
-
-pub first_past : (sep : ℕ) (s : List ℕ) (i : ℕ) → i < length s → (get_or s i 0 ≡ sep → ⊥) →
-    length (split sep (drop i s)).first ≡ suc (length (split sep (drop (i + 1) s)).first)
-first_past sep s i l h = rw (drop-cons s i 0 l, split_past sep (get_or s i 0) (drop (suc i) s) h, add-one i)
-
-pub first_none : (sep : ℕ) (s : List ℕ) (i : ℕ) → length s ≤ i → length (split sep (drop i s)).first ≡ 0
-unfolding split
-first_none sep s i l = rw (drop_of_length-le s l)
 
 -- no piece has a separator
 pub split_frees : (sep : ℕ) (s : List ℕ) → (free sep (split sep s).first ≡ true) × (every (free sep) (split sep s).more ≡ true)

@@ -3,13 +3,7 @@ use Rattle.std.specs.Prelude.{ℕ, List, [], ◌∷◌, ◌++◌, map}
 use Rattle.kinds.specs.Words.{word_of}
 use Rattle.entries.specs.declared.Entry.{Entry}
 use Rattle.entries.specs.Entries.{numbers_in}
-use Rattle.text.specs.Decimal.{decimal}
-
-abbrev pub space : ℕ
-space = 32
-
-abbrev pub line_feed : ℕ
-line_feed = 10
+use Rattle.decimal.specs.Decimal.{decimal, space, line_feed}
 
 -- pieces one after the other, a separator before each
 abbrev pub each : ℕ → List (List ℕ) → List ℕ

@@ -1,7 +1,7 @@
 -- What a refusal of a text says, and what its line is (02, L2).
 use Rattle.std.specs.Prelude.{ℕ, suc, ◌+◌, ◌≡◌, true, List, [], ◌∷◌, ◌++◌, ◌⊎◌, length}
 use Rattle.entries.specs.declared.Entry.{Entry}
-use Rattle.entries.specs.declared.refusals.Refusal.{Refusal}
+use Rattle.entries.specs.Said.{Refusal}
 use Rattle.entries.specs.Refusals.{output_too_short, of_entries, of_spelling, is_among}
 use Rattle.entries.specs.Said.{answered, refusing, refusal}
 use Rattle.kinds.specs.Kinds.{is_row}
@@ -9,7 +9,8 @@ use Rattle.table.specs.Steps.{begins_row, placed, permitted}
 use Rattle.table.specs.Contents.{Contents, tally_of, entries, written}
 use Rattle.table.specs.Places.{Reached}
 use Rattle.table.specs.Reading.{reading}
-use Rattle.text.specs.Lines.{line_feed, text_of}
+use Rattle.decimal.specs.Decimal.{line_feed}
+use Rattle.text.specs.Lines.{text_of}
 use Rattle.text.specs.Texts.{split, line_says, spelled, ended_by}
 
 -- 12 or 13: the lines before are spelled well, and the line itself says so

@@ -1,8 +1,6 @@
 -- The entries that a text spells, line by line from the front (02, L2).
-use Rattle.std.specs.Prelude.{ℕ, suc, cond, ◌&&◌, List, [], ◌∷◌, map, length, eqb}
+use Rattle.std.specs.Prelude.{ℕ, suc, cond, ◌&&◌, List, [], ◌∷◌, map, length, eqb, Option, Some, None}
 use Rattle.kinds.specs.declared.Kind.{Kind}
-use Rattle.kinds.specs.declared.Announced.{Announced}
-use Rattle.kinds.specs.declared.Announced.TheVariants.{Listed, Unlisted}
 use Rattle.kinds.specs.Kinds.{form_of}
 use Rattle.kinds.specs.Words.{kind_spelled}
 use Rattle.entries.specs.declared.Entry.{Entry}
@@ -10,8 +8,7 @@ use Rattle.entries.specs.Lists.{some, every}
 use Rattle.entries.specs.Refusals.{unknown_word, misspelt}
 use Rattle.entries.specs.Said.{Said, answered, refusing, refusal, and_then, unless}
 use Rattle.table.specs.Steps.{entry_of}
-use Rattle.text.specs.Decimal.{value, too_large, well_spelled}
-use Rattle.text.specs.Lines.{space, line_feed}
+use Rattle.decimal.specs.Decimal.{value, too_large, well_spelled, space, line_feed}
 
 -- bytes cut at each separator: what stands before the first, and the pieces behind each
 pub record Pieces : Type 0 where
@@ -32,9 +29,9 @@ misspelling kind numbers =
     cond (some too_large numbers) unknown_word (cond (eqb (length numbers) (form_of kind).numbers && every well_spelled numbers) 0 misspelt)
 
 -- "The word runs to the first space or the line's end"; behind it, a piece behind each space
-abbrev pub line_by : Announced → List (List ℕ) → Said Entry
-line_by Unlisted numbers = refusing (refusal unknown_word 0)
-line_by (Listed kind) numbers = unless (misspelling kind numbers) (answered (entry_of kind (map value numbers)))
+abbrev pub line_by : Option Kind → List (List ℕ) → Said Entry
+line_by None numbers = refusing (refusal unknown_word 0)
+line_by (Some kind) numbers = unless (misspelling kind numbers) (answered (entry_of kind (map value numbers)))
 
 -- what is said of a line, without its line feed
 unfoldable pub line_says : List ℕ → Said Entry

@@ -1,136 +1,155 @@
 // The text of a table, one line an entry, that a survey office can read and send back; and the table that a text spells.
 #![tactic(auto)]
 
-pub mod decimal;
 pub mod lines;
 
-ghost use Rattle.std.specs.Prelude.{◌≡◌, ◌++◌, ◌+◌, ◌≤◌, length, drop, take};
-ghost use Rattle.entries.specs.Said.{refusing, refusal};
-ghost use Rattle.entries.specs.Output.{sent, shown_output, output_of};
-ghost use Rattle.table.specs.Steps.{placed};
-ghost use Rattle.table.specs.Reading.{Fits, held};
+ghost use Rattle.std.specs.Prelude.{◌≡◌, ◌++◌, ◌+◌, ◌*◌, ◌≤◌, length, drop, MatchResult};
+ghost use Rattle.std.specs.Option.{option_map};
+ghost use Rattle.decimal.specs.Put.{Put};
+ghost use Rattle.entries.specs.Refusals.{number_of};
+ghost use Rattle.entries.specs.Said.{refusing, refusal, told, said};
+ghost use Rattle.entries.specs.Output.{sent, output_of};
+ghost use Rattle.table.specs.Steps.{row_limit, placed};
+ghost use Rattle.table.specs.Suppliers.{no_supplier, marked};
+ghost use Rattle.table.specs.Reading.{Full, held};
 ghost use Rattle.text.specs.Lines.{text_of};
 ghost use Rattle.text.specs.Calls.{to_text, from_text};
-ghost use Rattle.text.specs.Inner.{row_spelled, bad_from, own_unless, Holds, Gathers};
+ghost use Rattle.text.specs.Inner.{row_spelled, bad_from, own_unless, Gathers};
 
-use entries::refusals::{Output, Refusal};
-use entries::{Entry, refusals};
+use entries::Entry;
+use entries::refusals::{Reason, Refusal};
 use kinds::Kind;
-use table::steps::{Entered, Step, Tally};
-use table::{Outcome, Table, steps, suppliers};
+use table::steps::Tally;
+use table::{Table, steps, suppliers};
 
-// How many bytes a table's text has.
-fn text_size(t: Table) -> usize
-    requires { Fits t }
-    ensures { result ≡ length (text_of (held t)) }
+// How many bytes the lines of entries have that have no suppliers: of constraints, or of questions.
+fn plain_size(entries: &[Entry]) -> usize
+    requires { length entries.now ≤ row_limit }
+    ensures { (result ≡ length (text_of entries.now)) × (result ≤ 30 * length entries.now) }
 {
-    let bound = t.tally.constraints;
-    let ruled = bound + t.tally.rows;
-    let count = ruled + t.tally.questions;
     let mut size = 0;
-    let mut force = suppliers::NONE;
-    let mut i = 0;
-    while i < count {
-        let mut s = force;
-        let e = if i < bound {
-            t.constraints[i]
-        } else if i < ruled {
-            s = t.suppliers[i - bound];
-            t.rows[i - bound]
-        } else {
-            t.questions[i - ruled]
-        };
-        size += lines::lines_size(force, s, e);
-        force = s;
-        i += 1;
+    for e in entries {
+        size += lines::line_size(*e);
     }
     size
 }
 
-// A table's text, over the front of an output that has room for it.
-fn write(t: Table, out: &mut [u8]) -> usize
-    requires { Fits t × (length (text_of (held t)) ≤ length out.old) }
-    ensures length { result ≡ length (text_of (held t)) }
-    ensures output { out.new ≡ text_of (held t) ++ drop result out.old }
+// How many bytes the lines of rows have, with those of their suppliers.
+fn rows_size(rows: &[Entry], suppliers: &[u8]) -> usize
+    requires { (length suppliers.now ≡ length rows.now) × (length rows.now ≤ row_limit) }
+    ensures { (result ≡ length (text_of (marked no_supplier suppliers.now rows.now))) × (result ≤ 60 * length rows.now) }
+{
+    let mut size = 0;
+    let mut force = suppliers::NONE;
+    for (i, e) in rows.iter().enumerate() {
+        size += lines::lines_size(force, suppliers[i], *e);
+        force = suppliers[i];
+    }
+    size
+}
+
+// How many bytes a table's text has.
+fn text_size(t: &Table) -> usize
+    requires { Full t.now }
+    ensures { result ≡ length (text_of (held t.now)) }
 {
     let bound = t.tally.constraints;
-    let ruled = bound + t.tally.rows;
-    let count = ruled + t.tally.questions;
-    let mut at = 0;
-    let mut force = suppliers::NONE;
-    let mut i = 0;
-    while i < count {
-        let mut s = force;
-        let e = if i < bound {
-            t.constraints[i]
-        } else if i < ruled {
-            s = t.suppliers[i - bound];
-            t.rows[i - bound]
-        } else {
-            t.questions[i - ruled]
-        };
-        at = lines::put_lines(out, at, force, s, e);
-        force = s;
-        i += 1;
+    let used = t.tally.rows;
+    let asked = t.tally.questions;
+    plain_size(&t.constraints[..bound])
+        + rows_size(&t.rows[..used], &t.suppliers[..used])
+        + plain_size(&t.questions[..asked])
+}
+
+// The lines of entries that have no suppliers, from a place of an output on.
+fn put_plain(out: &mut [u8], at: usize, entries: &[Entry]) -> usize
+    requires { at + length (text_of entries.now) ≤ length out.old }
+    ensures { Put out.old at (text_of entries.now) result out.new }
+{
+    let mut next = at;
+    for e in entries {
+        next = lines::put_line(out, next, *e);
     }
-    at
+    next
+}
+
+// The lines of rows, with those of their suppliers.
+fn put_rows(out: &mut [u8], at: usize, rows: &[Entry], suppliers: &[u8]) -> usize
+    requires fit { length suppliers.now ≡ length rows.now }
+    requires room { at + length (text_of (marked no_supplier suppliers.now rows.now)) ≤ length out.old }
+    ensures { Put out.old at (text_of (marked no_supplier suppliers.now rows.now)) result out.new }
+{
+    let mut next = at;
+    let mut force = suppliers::NONE;
+    for (i, e) in rows.iter().enumerate() {
+        next = lines::put_lines(out, next, force, suppliers[i], *e);
+        force = suppliers[i];
+    }
+    next
+}
+
+// A table's text, over the front of an output that has room for it.
+fn write(t: &Table, out: &mut [u8]) -> usize
+    requires { Full t.now × (length (text_of (held t.now)) ≤ length out.old) }
+    ensures length { result ≡ length (text_of (held t.now)) }
+    ensures output { out.new ≡ text_of (held t.now) ++ drop result out.old }
+{
+    let bound = t.tally.constraints;
+    let used = t.tally.rows;
+    let asked = t.tally.questions;
+    let rows = put_plain(out, 0, &t.constraints[..bound]);
+    let questions = put_rows(out, rows, &t.rows[..used], &t.suppliers[..used]);
+    put_plain(out, questions, &t.questions[..asked])
 }
 
 // The text of a table, over the front of the output; nothing is written before every refusal is ruled out.
-pub fn to_text(table: &[u8], out: &mut [u8]) -> Output
-    ensures answer { result ≡ shown_output (sent (to_text table.now) (length out.old)) }
+pub fn to_text(table: &[u8], out: &mut [u8]) -> Result<usize, Refusal>
+    ensures answer { said result ≡ sent (to_text table.now) (length out.old) }
     ensures output { out.new ≡ output_of (to_text table.now) out.old }
 {
-    let got = table::read(table);
-    let outcome = got.outcome;
-    let Outcome::Read = outcome else {
-        let why = got.why;
-        return Output::Refused(why);
-    };
-    let t = got.table;
-    if out.len() < text_size(t) {
-        return Output::Refused(Refusal::of(refusals::OUTPUT_TOO_SHORT));
+    let t = table::accept(table)?;
+    if out.len() < text_size(&t) {
+        return Err(Refusal::of(Reason::OutputTooShort));
     }
-    Output::Written(write(t, out))
+    Ok(write(&t, out))
 }
 
 // No table has more bytes, with a supplier that waits for its row.
 const BYTES: usize = entries::LONGEST * (Table::CONSTRAINTS + (Table::ROWS + Table::QUESTIONS))
     + suppliers::SIZE * (Table::ROWS + 1);
 
-// The bytes of the table that a text spells, and how many they are; or the refusal, whose number is 0 where there is none.
+// The bytes of the table that a text spells: the first so many of an array with room for the most, fixed memory and no heap.
 #[derive(Clone, Copy)]
 pub struct Gathered {
     pub bytes: [u8; BYTES],
     pub length: usize,
-    pub why: Refusal,
 }
 
-// 12 or 13 at the first bad line from a place on, where a line with this number begins; the number 0 where every line is spelled well.
-fn bad_line(text: &[u8], from: usize, first: usize) -> Refusal
+// 12 or 13 at the first bad line from a place on, where a line with this number begins; none where every line is spelled well.
+fn bad_line(text: &[u8], from: usize, first: usize) -> Option<Refusal>
     requires { (from ≤ length text.now) × (first ≤ from + 1) }
-    ensures { result ≡ bad_from first (drop from text.now) }
+    ensures { option_map told result ≡ bad_from first (drop from text.now) }
 {
     let mut at = from;
     let mut line = first;
+    // no step of one: the place goes on by the line that was read
     while at < text.len() {
         let found = lines::line_at(text, at);
-        let said = found.said;
-        if let Step::Bad(why) = said {
-            return on_line(why, line);
+        if let Err(why) = found.said {
+            return Some(on_line(why, line));
         }
         at = found.next;
         line += 1;
     }
-    Refusal::of(0)
+    None
 }
 
 // A refusal at a line.
 fn on_line(why: Refusal, line: usize) -> Refusal
-    ensures { result ≡ refusal why.number line }
+    ensures { told result ≡ refusal (number_of why.reason) line }
 {
     Refusal {
-        number: why.number,
+        reason: why.reason,
         place: line,
     }
 }
@@ -138,33 +157,18 @@ fn on_line(why: Refusal, line: usize) -> Refusal
 // 01's own refusal of an entry at a line, unless a line from a place on is misspelt.
 fn own_unless(why: Refusal, line: usize, text: &[u8], next: usize) -> Refusal
     requires { (next ≤ length text.now) × (line ≤ next) }
-    ensures { result ≡ own_unless (refusal why.number line) (bad_from (line + 1) (drop next text.now)) }
+    ensures { told result ≡ own_unless (refusal (number_of why.reason) line) (bad_from (line + 1) (drop next text.now)) }
 {
-    let bad = bad_line(text, next, line + 1);
-    if bad.number == 0 {
-        return on_line(why, line);
-    }
-    bad
-}
-
-// Beside a refusal there are no bytes.
-fn refused(why: Refusal) -> Gathered
-    ensures { Gathers (refusing why) result }
-{
-    Gathered {
-        bytes: [0; BYTES],
-        length: 0,
-        why,
-    }
+    bad_line(text, next, line + 1).unwrap_or(on_line(why, line))
 }
 
 // Whether an entry behind a supplier in force is no idle supplier; the next line would begin at a place.
+#[tactic(auto, unfolding(table::specs::Steps::placed))]
 fn placed_line(e: Entry, force: u8, text: &[u8], next: usize) -> bool
     requires { next ≤ length text.now }
     ensures { result ≡ placed e force (row_spelled (drop next text.now)) }
 {
-    let kind = e.kind;
-    match kind {
+    match e.kind {
         Kind::Row(_) => true,
         Kind::Question(_) => true,
         Kind::Constraint(_) => true,
@@ -173,8 +177,8 @@ fn placed_line(e: Entry, force: u8, text: &[u8], next: usize) -> bool
 }
 
 // The bytes of the entries that a text spells, one after the other; an entry that may not stand where it does waits for a misspelt line behind it.
-fn gather(text: &[u8]) -> Gathered
-    ensures { Gathers (from_text text.now) result }
+fn gather(text: &[u8]) -> Result<Gathered, Refusal>
+    ensures { MatchResult result (Gathers (from_text text.now)) (λ why. from_text text.now ≡ refusing (told why)) }
 {
     let mut bytes = [0; BYTES];
     let mut length = 0;
@@ -186,62 +190,43 @@ fn gather(text: &[u8]) -> Gathered
     let mut force = suppliers::NONE;
     let mut line = 1;
     let mut at = 0;
+    // no step of one: the place goes on by the line that was read
     while at < text.len() {
         let found = lines::line_at(text, at);
-        let said = found.said;
-        let next = found.next;
-        match said {
-            Step::Took(e) => {
-                let well = placed_line(e, force, text, next);
-                let entered = steps::enter(e, well, tally);
-                match entered {
-                    Entered::In(more) => {
+        match found.said {
+            Ok(e) => {
+                let well = placed_line(e, force, text, found.next);
+                match steps::enter(e, well, tally) {
+                    Ok(more) => {
                         tally = more;
                         force = suppliers::behind(e, force);
-                        length = length + entries::put(&mut bytes[length..], e);
+                        length += entries::put(&mut bytes[length..], e);
                     }
-                    Entered::Out(why) => {
-                        return refused(own_unless(why, line, text, next));
+                    Err(why) => {
+                        return Err(own_unless(why, line, text, found.next));
                     }
                 }
             }
-            Step::Bad(why) => {
-                return refused(on_line(why, line));
+            Err(why) => {
+                return Err(on_line(why, line));
             }
         }
-        at = next;
+        at = found.next;
         line += 1;
     }
-    let why = Refusal::of(0);
-    Gathered { bytes, length, why }
-}
-
-// Bytes gathered, over the front of an output that has room for them.
-fn copy(from: Gathered, out: &mut [u8])
-    requires { Holds from × (from.length ≤ length out.old) }
-    ensures { out.new ≡ take from.length from.bytes ++ drop from.length out.old }
-{
-    let mut i = 0;
-    while i < from.length {
-        out[i] = from.bytes[i];
-        i += 1;
-    }
+    Ok(Gathered { bytes, length })
 }
 
 // The bytes of the table that a text spells, over the front of the output; nothing is written before every refusal is ruled out.
-pub fn from_text(text: &[u8], out: &mut [u8]) -> Output
-    ensures answer { result ≡ shown_output (sent (from_text text.now) (length out.old)) }
+pub fn from_text(text: &[u8], out: &mut [u8]) -> Result<usize, Refusal>
+    ensures answer { said result ≡ sent (from_text text.now) (length out.old) }
     ensures output { out.new ≡ output_of (from_text text.now) out.old }
 {
-    let got = gather(text);
-    let why = got.why;
-    if why.number != 0 {
-        return Output::Refused(why);
+    let got = gather(text)?;
+    let n = got.length;
+    if out.len() < n {
+        return Err(Refusal::of(Reason::OutputTooShort));
     }
-    let length = got.length;
-    if out.len() < length {
-        return Output::Refused(Refusal::of(refusals::OUTPUT_TOO_SHORT));
-    }
-    copy(got, out);
-    Output::Written(length)
+    out[..n].copy_from_slice(&got.bytes[..n]);
+    Ok(n)
 }

@@ -12,58 +12,26 @@ const BUDGET: u32 = 1000000;
 // How many bytes are read. A table longer than that is refused within them.
 const MOST: usize = 4096;
 
-fn text(rt: &impl Print, bytes: &[u8]) -> io::Result<()> {
-    rt.write_all(bytes)
-}
-
-fn number(rt: &impl Print, n: u64) -> io::Result<()> {
-    print!(rt; "{n}")
-}
-
-// "refused N at P"
-fn print_refusal(rt: &impl Print, refusal: u32, place: usize) -> io::Result<()> {
-    text(rt, b"refused ")?;
-    number(rt, refusal as u64)?;
-    text(rt, b" at ")?;
-    number(rt, place as u64)?;
-    text(rt, b"\n")
-}
-
-// "rows R queries Q predicates N"
-fn print_header(rt: &impl Print, rows: u32, questions: u32, predicates: u32) -> io::Result<()> {
-    text(rt, b"rows ")?;
-    number(rt, rows as u64)?;
-    text(rt, b" queries ")?;
-    number(rt, questions as u64)?;
-    text(rt, b" predicates ")?;
-    number(rt, predicates as u64)?;
-    text(rt, b"\n")
-}
-
 // "N holds after C", "N fails M after C" or "N unfinished after C"
 fn print_verdict(rt: &impl Print, question: u32, v: Verdict) -> io::Result<()> {
-    number(rt, question as u64)?;
-    if v.reply == pierstride::HOLDS {
-        text(rt, b" holds")?;
-    } else if v.reply == pierstride::FAILS {
-        text(rt, b" fails ")?;
-        number(rt, v.request as u64)?;
-    } else {
-        text(rt, b" unfinished")?;
+    let visits = v.visits;
+    match v.reply {
+        pierstride::HOLDS => println!(rt; "{question} holds after {visits}"),
+        pierstride::FAILS => println!(rt; "{question} fails {} after {visits}", v.request),
+        _ => println!(rt; "{question} unfinished after {visits}"),
     }
-    text(rt, b" after ")?;
-    number(rt, v.visits as u64)?;
-    text(rt, b"\n")
 }
 
 fn print_verdicts(rt: &impl Print, table: &[u8]) -> io::Result<()> {
     let c = pierstride::pier_read(table);
     if c.refusal != 0 {
-        return print_refusal(rt, c.refusal, c.place);
+        return println!(rt; "refused {} at {}", c.refusal, c.place);
     }
-    let questions = c.questions;
-    print_header(rt, c.rows, questions, c.predicates)?;
-    for q in 0..questions {
+    println!(rt;
+        "rows {} queries {} predicates {}",
+        c.rows, c.questions, c.predicates
+    )?;
+    for q in 0..c.questions {
         print_verdict(rt, q, pierstride::pier_verdict(table, q, BUDGET))?;
     }
     Ok(())

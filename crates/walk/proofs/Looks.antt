@@ -51,18 +51,28 @@ pub single_settled : (b : Bool) → look (single b) ≡ Open → ⊥
 single_settled true e = let z : ◌≡◌ {A = ℕ} 0 1 = cc in omega arith
 single_settled false e = let z : ◌≡◌ {A = ℕ} 0 1 = cc in omega arith
 
--- what is seen goes by the two low bits of the mask
-pub look_at : (n m : ℕ) → n % 4 ≡ m → look (of_mask truths n) ≡ look (of_mask truths m)
-look_at n m e = ap look (sym (low truths n) ∙ ap (of_mask truths) e)
+-- what is seen goes by the two low bits of the mask: true alone, false alone, or both or none
+at_low : (n m : ℕ) → n % 4 ≡ m → look (of_mask truths n) ≡ look (of_mask truths m)
+at_low n m e = ap look (sym (low truths n) ∙ ap (of_mask truths) e)
 
--- a set of truths with both members, or none, is not settled
-pub look_open : (n : ℕ) → n < 4 → (n ≡ 1 → ⊥) → (n ≡ 2 → ⊥) → look (of_mask truths n) ≡ Open
+pub look_true : (n : ℕ) → n % 4 ≡ 1 → Nothing ≡ look (of_mask truths n)
 unfolding of_mask bit
-look_open zero h p q = refl
-look_open (suc zero) h p q = absurd (p refl)
-look_open (suc (suc zero)) h p q = absurd (q refl)
-look_open (suc (suc (suc zero))) h p q = refl
-look_open (suc (suc (suc (suc n)))) h p q = absurd (omega arith)
+look_true n e = sym (at_low n 1 e)
+
+pub look_false : (n : ℕ) → n % 4 ≡ 2 → Found ≡ look (of_mask truths n)
+unfolding of_mask bit
+look_false n e = sym (at_low n 2 e)
+
+pub look_open : (n : ℕ) → (n % 4 ≡ 1 → ⊥) → (n % 4 ≡ 2 → ⊥) → Open ≡ look (of_mask truths n)
+unfolding of_mask bit
+look_open n p q = sym (at_low n (n % 4) refl ∙ at (n % 4) (omega arith) p q)
+  where
+    at : (m : ℕ) → m < 4 → (m ≡ 1 → ⊥) → (m ≡ 2 → ⊥) → look (of_mask truths m) ≡ Open
+    at zero h p q = refl
+    at (suc zero) h p q = absurd (p refl)
+    at (suc (suc zero)) h p q = absurd (q refl)
+    at (suc (suc (suc zero))) h p q = refl
+    at (suc (suc (suc (suc m)))) h p q = absurd (omega arith)
 
 -- what is seen by how the facts stand to the constraints: nothing, a request, or neither yet
 pub heeds_nothing : (s : Standing) (l : Look) → heeding s l ≡ Nothing → (s ≡ Broken) ⊎ (l ≡ Nothing)

@@ -1,10 +1,9 @@
 -- What the promises of this crate's inner functions speak of; no service's promise does.
-use Rattle.std.specs.Prelude.{ℕ, ◌+◌, ◌-◌, ◌*◌, ◌^◌, ◌≤◌, ◌<◌, min, Bool, true, false, cond, ◌||◌, List, leb, ltb, length}
+use Rattle.std.specs.Prelude.{ℕ, ◌+◌, ◌-◌, ◌^◌, ◌≤◌, ◌<◌, min, Bool, true, false, cond, ◌||◌, List, leb, ltb, length}
 use Rattle.entries.specs.declared.Entry.{Entry}
 use Rattle.table.specs.declared.Table.{Table}
-use Rattle.table.specs.Steps.{predicate_limit, question_limit, constraint_limit}
+use Rattle.table.specs.Steps.{predicate_limit, row_limit, question_limit, constraint_limit}
 use Rattle.table.specs.Reading.{up_to}
-use Rattle.runs.specs.Flat.{per_entry, entries_in}
 use Rattle.questions.specs.Inner.{top}
 use Rattle.walk.specs.declared.Look.{Look}
 use Rattle.walk.specs.declared.Look.TheVariants.{Nothing, Found, Open}
@@ -54,12 +53,6 @@ goes_on Nothing k n = false
 goes_on Found k n = false
 goes_on Open k n = ltb k n
 
--- what a visit sees of question j, from the runs that it is lent
-abbrev pub sees_in : List ℕ → List ℕ → List ℕ → ℕ → ℕ → ℕ → Look
-sees_in constraints rows questions = sees (entries_in constraints) (entries_in rows) (entries_in questions)
-
--- what a visit is lent: runs of rows and questions with a place for the set of each, question j and all rows that it looks at among them
-abbrev pub Lent : List ℕ → List ℕ → List ℕ → List ℕ → ℕ → Type 0
-Lent rows questions sets truths j =
-    (per_entry * length sets ≤ length rows) × (per_entry * length truths ≤ length questions) × (j < length truths)
-    × (top (entries_in questions) j ≤ length sets)
+-- what a visit is lent: no more rows and questions than there are places for their sets, question j and all rows that it looks at among them
+abbrev pub Lent : List Entry → List Entry → ℕ → Type 0
+Lent rows questions j = (length rows ≤ row_limit) × (length questions ≤ question_limit) × (j < length questions) × (top questions j ≤ length rows)

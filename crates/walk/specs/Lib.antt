@@ -3,5 +3,6 @@
 pub mod Walk
 pub mod Order
 pub mod Inner
+pub mod Seeing
 pub mod Plain
 pub mod Twice

@@ -6,14 +6,14 @@ ghost use Rattle.std.proofs.Math.Option.{none};
 ghost use Rattle.table.specs.Steps.{predicate_limit, question_limit};
 ghost use Rattle.possible.specs.Sets.{truths as both_truths, of_mask};
 ghost use Rattle.walk.specs.Walk.{look, heeding, found_at, sees, ended, reply_of};
-ghost use Rattle.walk.specs.Inner.{reply_in, breaks_in, bounds_in, sees_in, count_of, plus_of, walk_from, goes_on, Lent};
+ghost use Rattle.walk.specs.Inner.{reply_in, breaks_in, bounds_in, count_of, plus_of, walk_from, goes_on, Lent};
 
 use constraints::Standing;
-use runs::Part;
+use entries::Entry;
 use table::Table;
 
 // What a visit sees: nothing breaks the question here, a breaking request is found, or neither yet.
-#[derive(Clone, Copy)]
+#[derive(Clone, Copy, Debug, PartialEq, Eq)]
 pub enum Look {
     Nothing,
     Found,
@@ -21,7 +21,7 @@ pub enum Look {
 }
 
 // Holds, with the count of visits; fails, with the breaking request and the count; unfinished, with the budget.
-#[derive(Clone, Copy)]
+#[derive(Clone, Copy, Debug, PartialEq, Eq)]
 pub enum Reply {
     Holds(u32),
     Fails(u32, u32),
@@ -29,11 +29,11 @@ pub enum Reply {
 }
 
 // What a visit sees of a set of truths: settled true, settled false, or neither yet.
+#[tactic(auto, using(crate::proofs::Looks::look_true, crate::proofs::Looks::look_false, crate::proofs::Looks::look_open))]
 fn look_of(t: u8) -> Look
     ensures { result ≡ look (of_mask both_truths t) }
 {
-    let m = t % 4;
-    match m {
+    match t % 4 {
         1 => Look::Nothing,
         2 => Look::Found,
         _ => Look::Open,
@@ -64,30 +64,6 @@ fn goes_on(seen: Look, k: u32, n: u32) -> bool
         Look::Found => false,
         Look::Open => k < n,
     }
-}
-
-// What a visit sees of a question with predicates 0 to k-1 known and these facts yes.
-fn visit(
-    constraints: &[u8],
-    rows: &[u8],
-    questions: &[u8],
-    sets: &mut [u8],
-    truths: &mut [u8],
-    question: usize,
-    k: u32,
-    facts: u32,
-) -> Look
-    requires { Lent rows.now questions.now sets.old truths.old question × (k ≤ predicate_limit) }
-    ensures { result ≡ sees_in constraints.now rows.now questions.now question (2 ^ k - 1) facts }
-{
-    let known = (1 << k) - 1;
-    let standing = constraints::met(constraints, known, facts);
-    if let Standing::Broken = standing {
-        return Look::Nothing;
-    }
-    possible::fill_sets(rows, known, facts, sets);
-    questions::fill_truths(questions, sets, truths);
-    heed(standing, look_of(truths[question]))
 }
 
 // The reply of a visit below which none is made.
@@ -121,70 +97,59 @@ fn plus(r: Reply, made: u32, budget: u32) -> Reply
     }
 }
 
-// The walk from a visit with predicates 0 to k-1 known, of n.
-fn walk_from(
-    constraints: &[u8],
-    rows: &[u8],
-    questions: &[u8],
-    sets: &mut [u8],
-    truths: &mut [u8],
+// What a walk goes by: the constraints, the rows that the question looks at, the questions up to it, and the sets and truths that its last visit filled.
+#[derive(Drop)]
+struct Walk<'a> {
+    constraints: &'a [Entry],
+    rows: &'a [Entry],
+    questions: &'a [Entry],
     question: usize,
-    n: u32,
-    k: u32,
-    facts: u32,
-    budget: u32,
-) -> Reply
-    requires { Lent rows.now questions.now sets.old truths.old question × (k ≤ n) × (n ≤ predicate_limit) × (facts < 2 ^ k) }
-    ensures { result ≡ reply_of budget
-        (walk_from (sees_in constraints.now rows.now questions.now question) n k facts) }
-{
-    if budget == 0 {
-        return Reply::Unfinished(0);
+    sets: [u8; Table::ROWS],
+    truths: [u8; Table::QUESTIONS],
+    ghost lent: { Lent rows.now questions.now question },
+}
+
+impl Walk<'_> {
+    ghost use Rattle.walk.specs.Seeing.{sees_in};
+
+    // What a visit sees of the question with predicates 0 to k-1 known and these facts yes.
+    fn visit(&mut self, k: u32, facts: u32) -> Look
+        requires { k ≤ predicate_limit }
+        ensures sight { result ≡ sees_in self.old (2 ^ k - 1) facts }
+        ensures kept { sees_in self.new ≡ sees_in self.old }
+    {
+        let known = (1 << k) - 1;
+        let standing = constraints::met(self.constraints, known, facts);
+        if standing == Standing::Broken {
+            return Look::Nothing;
+        }
+        possible::fill_sets(self.rows, known, facts, &mut self.sets);
+        questions::fill_truths(self.questions, &self.sets, &mut self.truths);
+        heed(standing, look_of(self.truths[self.question]))
     }
-    let seen = visit(
-        constraints,
-        rows,
-        questions,
-        sets,
-        truths,
-        question,
-        k,
-        facts,
-    );
-    let open = goes_on(seen, k, n);
-    if !open {
-        return settled(seen, facts);
+
+    // The walk from a visit with predicates 0 to k-1 known, of n.
+    #[tactic(auto, using(crate::proofs::Replies::no_budget))]
+    fn from(&mut self, n: u32, k: u32, facts: u32, budget: u32) -> Reply
+        requires { (k ≤ n) × (n ≤ predicate_limit) × (facts < 2 ^ k) }
+        ensures reply { result ≡ reply_of budget (walk_from (sees_in self.old) n k facts) }
+        ensures kept { sees_in self.new ≡ sees_in self.old }
+    {
+        if budget == 0 {
+            return Reply::Unfinished(0);
+        }
+        let seen = self.visit(k, facts);
+        if !goes_on(seen, k, n) {
+            return settled(seen, facts);
+        }
+        let yes = with_yes(facts, k);
+        let first = self.from(n, k + 1, facts, budget - 1);
+        let Reply::Holds(a) = first else {
+            return plus(first, 1, budget);
+        };
+        let second = self.from(n, k + 1, yes, budget - 1 - a);
+        plus(second, 1 + a, budget)
     }
-    let no = facts;
-    let yes = with_yes(facts, k);
-    let first = walk_from(
-        constraints,
-        rows,
-        questions,
-        sets,
-        truths,
-        question,
-        n,
-        k + 1,
-        no,
-        budget - 1,
-    );
-    let Reply::Holds(a) = first else {
-        return plus(first, 1, budget);
-    };
-    let second = walk_from(
-        constraints,
-        rows,
-        questions,
-        sets,
-        truths,
-        question,
-        n,
-        k + 1,
-        yes,
-        budget - 1 - a,
-    );
-    plus(second, 1 + a, budget)
 }
 
 // The walk for a question of a table, from a visit with predicates 0 to k-1 known, of n.
@@ -192,29 +157,18 @@ fn walk_at(t: Table, question: usize, n: u32, k: u32, facts: u32, budget: u32) -
     requires { (question < question_limit) × (k ≤ n) × (n ≤ predicate_limit) × (facts < 2 ^ k) }
     ensures { result ≡ reply_of budget (walk_from (sees (bounds_in t) t.rows t.questions question) n k facts) }
 {
-    let end = question + 1;
-    let asked = runs::flat(t, Part::Questions, end);
-    let questions = &asked[..runs::PER_ENTRY * end];
+    let bound = t.tally.constraints.min(Table::CONSTRAINTS);
+    let questions = &t.questions[..question + 1];
     let top = questions::top_of(questions, question as u8);
-    let run = runs::flat(t, Part::Rows, top);
-    let rows = &run[..runs::PER_ENTRY * top];
-    let bound = entries::fewer(t.tally.constraints, Table::CONSTRAINTS);
-    let bounds = runs::flat(t, Part::Constraints, bound);
-    let constraints = &bounds[..runs::PER_ENTRY * bound];
-    let mut sets = [0u8; Table::ROWS];
-    let mut truths = [0u8; Table::QUESTIONS];
-    walk_from(
-        constraints,
-        rows,
+    let mut walk = Walk {
+        constraints: &t.constraints[..bound],
+        rows: &t.rows[..top],
         questions,
-        &mut sets[..top],
-        &mut truths[..end],
         question,
-        n,
-        k,
-        facts,
-        budget,
-    )
+        sets: [0; Table::ROWS],
+        truths: [0; Table::QUESTIONS],
+    };
+    walk.from(n, k, facts, budget)
 }
 
 // The verdict on a question of a table, within a budget of visits; nothing is claimed of a question that no table has room for.
@@ -224,7 +178,7 @@ pub fn verdict(t: Table, question: usize, budget: u32) -> Reply
     if Table::QUESTIONS <= question {
         return Reply::Unfinished(budget);
     }
-    let n = entries::fewer(t.predicates, Table::PREDICATES) as u32;
+    let n = t.predicates.min(Table::PREDICATES) as u32;
     walk_at(t, question, n, 0, 0, budget)
 }
 
@@ -238,13 +192,11 @@ const MASKS: u32 = 1 << Table::PREDICATES;
 pub fn breaks(t: Table, question: usize, request: u32) -> bool
     ensures { result ≡ breaks_in (bounds_in t) t.rows t.questions question request }
 {
-    if (Table::QUESTIONS <= question) | (MASKS <= request) {
+    if Table::QUESTIONS <= question || MASKS <= request {
         return false;
     }
-    let reply = walk_at(t, question, PREDICATES, PREDICATES, request, 1);
-    match reply {
-        Reply::Holds(_) => false,
-        Reply::Fails(_, _) => true,
-        Reply::Unfinished(_) => false,
-    }
+    matches!(
+        walk_at(t, question, PREDICATES, PREDICATES, request, 1),
+        Reply::Fails(_, _)
+    )
 }

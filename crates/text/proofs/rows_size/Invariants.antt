@@ -1,0 +1,8 @@
+-- The lines counted are those of the rows passed with their suppliers', and no row has more than sixty bytes.
+use Rattle.std.proofs.Common.{◌≡◌, ◌*◌, ◌≤◌, length}
+use Rattle.table.proofs.Marking.{force_at}
+use Rattle.text.proofs.Filling.{rows_to}
+use Rattle.text.proofs.rows_size.Given as goal
+
+abbrev pub invariant-loop-i : goal.invariant-loop-i
+invariant-loop-i l = (l.size ≡ length (rows_to l.suppliers l.rows l.i)) × (l.size ≤ 60 * l.i) × (l.force ≡ force_at l.suppliers l.i)
