@@ -30,10 +30,12 @@ pub fn denies(x: Decision) -> bool
 }
 
 // The decision with these two claims. Its code has them as bits: "denies" counts 1, "grants" 2.
+// By a case of the two claims it takes longer (docs/DECISIONS.md, `claiming`).
+#[tactic(auto, unfolding(crate::specs::Decisions::coded))]
 pub fn claiming(grants: bool, denies: bool) -> Decision
     ensures { result ≡ claiming grants denies }
 {
-    decision_of(2 * (grants as u8) + (denies as u8))
+    decision_of(2 * u8::from(grants) + u8::from(denies))
 }
 
 pub fn code_of(x: Decision) -> u8
@@ -42,7 +44,7 @@ pub fn code_of(x: Decision) -> u8
     x as u8
 }
 
-// The decision with a code; a number that is no code reads as u.
+// The decision with a code; a number that is no code reads as u. So it cannot fail, and is no `TryFrom`.
 #[tactic(auto, unfolding(crate::specs::Decisions::coded))]
 pub fn decision_of(n: u8) -> Decision
     ensures { result ≡ coded n }

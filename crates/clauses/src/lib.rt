@@ -8,6 +8,7 @@ ghost use Rattle.clauses.specs.Variables.{yes as is_true, predicate_at, claims_a
 
 use belnap::Decision;
 use belnap::orders::Order;
+use entries::Entry;
 use kinds::{ConstraintKind, Kind, QuestionKind, RowKind};
 use operators::{OneRow, TwoRow};
 use std::ops::Not;
@@ -249,16 +250,16 @@ pub fn truth_at(layout: Layout, j: u32) -> Literal
     yes(before + j as usize + 1)
 }
 
-// The rules of an entry, by its kind, its numbers and its own number.
-pub fn rules_of(layout: Layout, number: u32, kind: Kind, a: u8, b: u8) -> Rules
-    ensures { result ≡ rules_by layout number kind a b }
+// The rules of an entry with a number.
+pub fn rules_of(layout: Layout, number: u32, e: Entry) -> Rules
+    ensures { result ≡ rules_by layout number e.kind e.a e.b }
 {
-    let i = u32::from(a);
-    let j = u32::from(b);
+    let i = u32::from(e.a);
+    let j = u32::from(e.b);
     let x = claims_at(layout, i);
     let y = claims_at(layout, j);
-    match kind {
-        Kind::Row(row) => row_rules(row, predicate_at(a), claims_at(layout, number), x, y),
+    match e.kind {
+        Kind::Row(row) => row_rules(row, predicate_at(e.a), claims_at(layout, number), x, y),
         Kind::Question(question) => Rules::One(question_rule(
             question,
             truth_at(layout, number),
@@ -269,8 +270,8 @@ pub fn rules_of(layout: Layout, number: u32, kind: Kind, a: u8, b: u8) -> Rules
         )),
         Kind::Constraint(constraint) => Rules::One(constraint_rule(
             constraint,
-            predicate_at(a),
-            predicate_at(b),
+            predicate_at(e.a),
+            predicate_at(e.b),
         )),
         Kind::Supplier => Rules::None,
     }

@@ -3,8 +3,9 @@
 
 ghost use Rattle.std.specs.Prelude.{◌≡◌};
 ghost use Rattle.kinds.specs.Kinds.{as_constraint};
-ghost use Rattle.constraints.specs.Constraints.{known_yes, stands_by, standing};
+ghost use Rattle.constraints.specs.Constraints.{stands_by, standing};
 
+use decide::Facts;
 use entries::Entry;
 use kinds::{ConstraintKind, Kind};
 
@@ -16,7 +17,7 @@ pub enum Standing {
     Kept,
 }
 
-// What is no constraint reads as "only if".
+// What is no constraint reads as "only if", so that this cannot fail.
 fn as_constraint(kind: Kind) -> ConstraintKind
     ensures { result ≡ as_constraint kind }
 {
@@ -26,31 +27,24 @@ fn as_constraint(kind: Kind) -> ConstraintKind
     }
 }
 
-// Whether a predicate is known to be yes.
-fn known_yes(known: u32, facts: u32, predicate: u8) -> bool
-    ensures { result ≡ known_yes known facts predicate }
+// How known facts stand to one constraint.
+fn stands_by(e: Entry, facts: Facts) -> Standing
+    ensures { result ≡ stands_by (as_constraint e.kind) facts.known facts.yes e.a e.b }
 {
-    decide::bit_of(known, predicate) & decide::bit_of(facts, predicate)
-}
-
-// How known facts stand to a constraint with these two predicates.
-fn stands_by(kind: ConstraintKind, known: u32, facts: u32, a: u8, b: u8) -> Standing
-    ensures { result ≡ stands_by kind known facts a b }
-{
-    if !known_yes(known, facts, a) {
+    if !facts.known_yes(e.a) {
         return Standing::Kept;
     }
-    match kind {
-        ConstraintKind::NeverBoth => if known_yes(known, facts, b) {
+    match as_constraint(e.kind) {
+        ConstraintKind::NeverBoth => if facts.known_yes(e.b) {
             Standing::Broken
         } else {
             Standing::Kept
         },
         ConstraintKind::OnlyIf => {
-            if !decide::bit_of(known, b) {
+            if !decide::bit_of(facts.known, e.b) {
                 return Standing::Waiting;
             }
-            if decide::bit_of(facts, b) {
+            if decide::bit_of(facts.yes, e.b) {
                 Standing::Kept
             } else {
                 Standing::Broken
@@ -59,15 +53,14 @@ fn stands_by(kind: ConstraintKind, known: u32, facts: u32, a: u8, b: u8) -> Stan
     }
 }
 
-// How known facts stand to constraints, with these predicates known and these of them yes.
+// How known facts stand to constraints.
 #[tactic(auto, unfolding(crate::specs::Constraints::standing))]
-pub fn met(constraints: &[Entry], known: u32, facts: u32) -> Standing
-    ensures { result ≡ standing constraints.now known facts }
+pub fn met(constraints: &[Entry], facts: Facts) -> Standing
+    ensures { result ≡ standing constraints.now facts.known facts.yes }
 {
     let mut waits = false;
     for e in constraints {
-        let kind = as_constraint(e.kind);
-        match stands_by(kind, known, facts, e.a, e.b) {
+        match stands_by(*e, facts) {
             Standing::Broken => return Standing::Broken,
             Standing::Waiting => waits = true,
             Standing::Kept => {}

@@ -1,15 +1,16 @@
 -- Laws of values row by row, over the values' type: what stands at a row's number, one turn of a loop that fills an array,
--- induction over rows, and two kinds of values that go side by side.
+-- values kept as others, induction over rows, and two kinds of values that go side by side.
 -- Assumes nothing.
-use mathlib.Core.Path.{◌≡◌, refl, ap, ap₂, ◌∙◌}
+use mathlib.Core.Path.{◌≡◌, refl, sym, ap, ap₂, ◌∙◌}
 use mathlib.Core.Bool.{true}
-use mathlib.Core.List.{List, [], ◌∷◌, ◌++◌, map, append_assoc}
+use mathlib.Core.List.{List, [], ◌∷◌, ◌++◌, map}
 use Prim.Native.Nat.{ℕ, zero, suc, ◌+◌, ◌≤◌, ◌<◌}
 use native.Mathlib.Omega.{arith}
 use native.Mathlib.Numerals.{add-one}
-use lib.ListN.{length, get_or, take, drop, set, length-append, length-map, get_or-append, get_or-eq_default, get_or-map}
-use lib.Seq.{get_or_at, take_at, set_at, drop-cons}
+use lib.ListN.{length, get_or, drop, set, length-append, length-map, get_or-append, get_or-eq_default, get_or-map}
+use lib.Seq.{get_or_at}
 use borrow.Author.Tests.{eqb-true}
+use Rattle.std.proofs.lemmas.List.{map-append}
 use Rattle.entries.specs.declared.Entry.{Entry}
 use Rattle.entries.specs.Entries.{blank, equal_numbers}
 use Rattle.table.specs.Reading.{padded}
@@ -72,43 +73,33 @@ module _ {A : Type 0} (f : Entry → A → A → A) (z : A) where
       (ap (λ (d : List A). get_or d (get_or es i blank).b z) q ∙ padded_at z n l (get_or es i blank).b) in
       rw (add-one i, q, w) (padded_next z n l (value_by f z (get_or es i blank) l) i m h)
 
+-- values kept as others: where the rule's answer is kept as the other rule's, from what is kept of the two before it
+module _ {A B : Type 0} (f : Entry → A → A → A) (z : A) (code : A → B) (g : Entry → B → B → B)
+    (h : (e : Entry) (x y : A) → g e (code x) (code y) ≡ code (f e x y)) where
+  pub values_coded : (es : List Entry) (n : ℕ) → values g (code z) es n ≡ map code (values f z es n)
+  unfolding values
+  values_coded es zero = refl
+  values_coded es (suc n) =
+      let l = values f z es n in
+      let e = get_or es n blank in
+      rw (values_coded es n, get_or-map code l e.a z, get_or-map code l e.b z, h e (get_or l e.a z) (get_or l e.b z))
+      (sym (map-append code l (value_by f z e l ∷ [])))
+
 -- inside a list it does not matter what would stand past its end
 pub get_d_any : {A : Type 0} (l : List A) (i : ℕ) (d e : A) → i < length l → get_or l i d ≡ get_or l i e
 get_d_any [] i d e h = absurd (omega arith)
 get_d_any (x ∷ l) zero d e h = refl
 get_d_any (x ∷ l) (suc i) d e h = get_d_any l i d e (omega arith)
 
--- the same of values kept as numbers in the front of what is lent: what stands at a number, and one turn of the loop
-map_more : {A B : Type 0} (f : A → B) (l : List A) (x : A) → map f (l ++ (x ∷ [])) ≡ map f l ++ (f x ∷ [])
-map_more f [] x = refl
-map_more {B} f (y ∷ l) x = ap (λ (m : List B). f y ∷ m) (map_more f l x)
-
+-- what stands at a number where values stand in front of what is lent, kept as numbers
 module _ {A : Type 0} (f : Entry → A → A → A) (z : A) (code : A → ℕ) (es : List Entry) (i : ℕ) (out₀ out : List ℕ)
     (q : out ≡ map code (values f z es i) ++ drop i out₀) where
-  coded_length : length (map code (values f z es i)) ≡ i
-  coded_length = length-map (values f z es i) code ∙ values_length f z es i
-
-  pub coded_at : (x : ℕ) → get_or (take i out) x (code z) ≡ code (get_or (values f z es i) x z)
-  coded_at x =
-      ap (λ (l : List ℕ). get_or (take i l) x (code z)) q
-      ∙ ap (λ (l : List ℕ). get_or l x (code z)) (take_at (map code (values f z es i)) (drop i out₀) i coded_length)
-      ∙ get_or-map code (values f z es i) x z
-
   pub coded_get : (x : ℕ) → x < i → get_or out x 0 ≡ code (value_at f z es x)
   coded_get x h =
       let l = map code (values f z es i) in
-      let m : x < length l = rw coded_length h in
+      let m : x < length l = rw (length-map (values f z es i) code, values_length f z es i) h in
       ap (λ (o : List ℕ). get_or o x 0) q ∙ get_or-append l (drop i out₀) 0 x m ∙ get_d_any l x 0 (code z) m
       ∙ get_or-map code (values f z es i) x z ∙ ap code (before_there f z es i x h)
-
-  pub coded_turn : (v : ℕ) → i < length out₀ → v ≡ code (value_at f z es i) → set out i v ≡ map code (values f z es (i + 1)) ++ drop (i + 1) out₀
-  unfolding values value_at
-  coded_turn v h e =
-      let l = map code (values f z es i) in
-      let w = value_by f z (get_or es i blank) (values f z es i) in
-      ap₂ (λ (o : List ℕ) (x : ℕ). set o i x) (q ∙ ap (λ (r : List ℕ). l ++ r) (drop-cons out₀ i 0 h)) e
-      ∙ set_at l (get_or out₀ i 0) (drop (suc i) out₀) (code w) i coded_length
-      ∙ rw (add-one i, map_more code (values f z es i) w, append_assoc l (code w ∷ []) (drop (suc i) out₀))
 
 -- an entry's value, where number n has the value x n
 abbrev from : {A : Type 0} → (Entry → A → A → A) → Entry → (ℕ → A) → A

@@ -4,10 +4,14 @@
 use Rattle.belnap.specs.One.{One}
 use Rattle.belnap.proofs.Unique.{by_definition}
 use Rattle.decide.proofs.bit_of.Reads as bit_of
+use Rattle.decide.proofs.Facts.known_yes.Reads as known_yes
 use Rattle.decide.proofs.decide.Reads as decide
 
 pub one_bit : One bit_of.Post
 one_bit κs args exit = by_definition
+
+pub one_known : One known_yes.Post
+one_known κs args exit = by_definition
 
 pub one_decision : One decide.Post
 one_decision κs args exit = by_definition

@@ -15,7 +15,8 @@ pub const SPACE: u8 = b' ';
 
 pub const LINE_FEED: u8 = b'\n';
 
-// One byte at a place of an output, where it has that place; the place behind what was stored comes back.
+// One byte at a place of an output, where it has that place; the place behind what was stored comes back. An output and a place go together through all that
+// write behind one another; `Put` and `Stores` say what both are then in one fact, so no struct of the two would say less.
 pub fn put_byte(out: &mut [u8], at: usize, byte: u8) -> usize
     ensures { Stores out.old at (byte ∷ []) result out.new }
 {
@@ -44,6 +45,7 @@ pub fn decimal_size(n: usize) -> usize
 {
     let mut size = 1;
     let mut rest = n;
+    // a `while`, since each step divides
     while ONE_DIGIT <= rest {
         rest /= ONE_DIGIT;
         size += 1;
@@ -70,7 +72,7 @@ fn grown(v: usize, x: u8) -> usize
     ensures { result ≡ cond (ltb v number_limit) (v * base + (x - zero_digit)) v }
 {
     if v < entries::NUMBERS {
-        return v * (BASE as usize) + (x - b'0') as usize;
+        return v * ONE_DIGIT + usize::from(x - b'0');
     }
     v
 }

@@ -115,13 +115,14 @@ fn put_entries(out: &mut [u8], at: usize, entries: &[Entry], layout: Layout) -> 
 {
     let mut next = at;
     for (i, e) in entries.iter().enumerate() {
-        let rules = clauses::rules_of(layout, i as u32, e.kind, e.a, e.b);
+        let rules = clauses::rules_of(layout, i as u32, *e);
         next = put_rules(out, next, rules);
     }
     next
 }
 
-// How many bytes a literal takes with the space behind it.
+// How many bytes a literal takes with the space behind it. Each function that writes has one that measures: nothing is written before every refusal is ruled
+// out, and there is no heap to write into meanwhile.
 #[tactic(auto, unfolding(crate::specs::Dimacs::literal_text))]
 fn literal_size(l: Literal) -> usize
     ensures { (result ≡ length (literal_text l)) × (result ≤ 22) }
@@ -184,7 +185,7 @@ fn entries_extent(entries: &[Entry], layout: Layout) -> Extent
         bytes: 0,
     };
     for (i, e) in entries.iter().enumerate() {
-        let rules = clauses::rules_of(layout, i as u32, e.kind, e.a, e.b);
+        let rules = clauses::rules_of(layout, i as u32, *e);
         let extent = rules_extent(rules);
         total.clauses += extent.clauses;
         total.bytes += extent.bytes;

@@ -23,6 +23,7 @@ pub const LONGEST: usize = 3;
 // How many numbers one byte can be.
 pub const NUMBERS: usize = 256;
 
+// A number as an index, with the bound that a body's byte has.
 pub fn index(x: u8) -> usize
     ensures { (result ≡ x) × (result < number_limit) }
 {

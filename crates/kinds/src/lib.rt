@@ -124,6 +124,7 @@ fn row_form(kind: RowKind) -> Form
     }
 }
 
+// The bytes of the operators and of the comparisons. They stand here, in the table of kinds, and not as discriminants in the crates below.
 fn byte_of_one(op: OneRow) -> u8
     ensures { result ≡ byte_of_one op }
 {
@@ -199,18 +200,10 @@ pub fn form_of(kind: Kind) -> Form
 pub fn of_row(announced: Option<Kind>) -> bool
     ensures { result ≡ of_row announced }
 {
-    match announced {
-        Some(kind) => match kind {
-            Kind::Row(_) => true,
-            Kind::Question(_) => false,
-            Kind::Constraint(_) => false,
-            Kind::Supplier => false,
-        },
-        None => false,
-    }
+    matches!(announced, Some(Kind::Row(_)))
 }
 
-// What is no row reads as always u.
+// What is no row reads as always u, so that this cannot fail.
 pub fn as_row(kind: Kind) -> RowKind
     ensures { result ≡ as_row kind }
 {
@@ -222,7 +215,7 @@ pub fn as_row(kind: Kind) -> RowKind
     }
 }
 
-// What is no question reads as "both".
+// What is no question reads as "both", so that this cannot fail.
 pub fn as_question(kind: Kind) -> QuestionKind
     ensures { result ≡ as_question kind }
 {

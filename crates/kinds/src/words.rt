@@ -45,7 +45,7 @@ pub fn word_of(kind: Kind) -> &'static [u8]
     }
 }
 
-// By a number made of a word's ends and length: the byte of the one kind that it may spell.
+// By a number made of a word's ends and length: the byte of the one kind that it may spell, for speed: one guess in place of a comparison with every word.
 const GUESSES: [u8; 64] = [
     0x00, 0x00, 0x01, 0x00, 0x00, 0x00, 0x00, 0x11, 0x00, 0x00, 0x3b, 0x00, 0x00, 0x00, 0x02, 0x03,
     0x00, 0x21, 0x00, 0x00, 0x00, 0x33, 0x43, 0x00, 0x41, 0x00, 0x00, 0x60, 0x00, 0x00, 0x00, 0x00,
@@ -57,8 +57,8 @@ fn guess(w: &[u8]) -> u8
     requires { (0 < length w.now) × (length w.now ≤ longest) }
     ensures { Guesses w.now result }
 {
-    let first = w[0] as usize;
-    let last = w[w.len() - 1] as usize;
+    let first = usize::from(w[0]);
+    let last = usize::from(w[w.len() - 1]);
     let i = (5 * first + 2 * last + 7 * w.len()) % 64;
     GUESSES[i]
 }

@@ -27,7 +27,7 @@ use Rattle.lookup.specs.Lookup.{ending_with, bytes_before, part_of, place_of, pa
 use Rattle.table.specs.declared.Table.{Table}
 use Rattle.table.proofs.Padding.{padded_length, padded_at, padded_front}
 use Rattle.table.proofs.Opening.{opened, turned}
-use Rattle.table.proofs.Marking.{marked_append, force_at, force_more, marked_to, marked_more}
+use Rattle.table.proofs.Marking.{marked_append, force_at, marked_to, marked_more}
 use Rattle.table.proofs.Writing.{Whole, written_append, written_more, written_parts, of_accepted}
 use Rattle.table.proofs.Laws.{constraint_bytes}
 
@@ -57,7 +57,7 @@ pub still_in_force : (force : ℕ) → last_of force [] ≡ force
 unfolding last_of
 still_in_force force = refl
 
-pub ruleset row_bytes = (start_more, bytes_before_lem, force_more, no_rows, still_in_force)
+pub ruleset row_bytes = (bytes_before_lem, no_rows, still_in_force)
 
 -- so a row starts behind the constraints, the rows before it and a 60 of its own
 pub start_is : (c : Contents) (r : ℕ) → length c.suppliers ≡ length c.rows → r < length c.rows →

@@ -12,7 +12,7 @@ use entries::refusals::{Reason, Refusal};
 use kinds::{ConstraintKind, Kind};
 use table::{Table, suppliers};
 
-// Where a part of a table starts, and how many bytes it has.
+// Where a part of a table starts, and how many bytes it has, as C's answer says it.
 #[derive(Clone, Copy, Debug, PartialEq, Eq)]
 pub struct Part {
     pub start: usize,
@@ -20,16 +20,16 @@ pub struct Part {
 }
 
 // How many bytes the rows before a row have, with their 60s, and its own.
-#[tactic(auto, using(crate::proofs::RowPart::row_bytes))]
+#[tactic(auto, using(crate::proofs::RowPart::row_bytes, std::proofs::lemmas::Slice::Zip::zip_end))]
 fn bytes_before(t: &Table, row: usize) -> usize
     requires { (row < row_limit) × (length t.now.rows ≡ row_limit) × (length t.now.suppliers ≡ row_limit) }
     ensures { (result ≡ bytes_before t.now.suppliers t.now.rows row) × (result ≤ (size_limit + supplier_size) * row_limit) }
 {
     let mut start = 0;
     let mut force = suppliers::NONE;
-    for i in 0..row {
-        start += suppliers::change_size(force, t.suppliers[i]) + entries::size_of(t.rows[i]);
-        force = t.suppliers[i];
+    for (e, s) in t.rows[..row].iter().zip(&t.suppliers) {
+        start += suppliers::change_size(force, *s) + entries::size_of(*e);
+        force = *s;
     }
     start + suppliers::change_size(force, t.suppliers[row])
 }

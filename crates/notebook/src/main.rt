@@ -3,6 +3,7 @@
 // constraints (02, L5) and with suppliers (02, L6); then takes rows out of tables, each as a part of the table, or with the companion's refusal.
 #![tactic(auto)]
 
+use pierstride::Written;
 use std::io;
 
 // Table A; question 2 asks if row 2 is free of conflict.
@@ -63,29 +64,21 @@ fn asks(rt: &impl Print, name: &str, table: &[u8], question: u32, budget: u32) -
     }
 }
 
-fn bytes(rt: &impl Print, part: &[u8]) -> io::Result<()> {
-    for b in part {
+// The first bytes of a part, so many at most.
+fn bytes(rt: &impl Print, part: &[u8], most: usize) -> io::Result<()> {
+    for b in part.iter().take(most) {
         print!(rt; " {b:02x}")?;
     }
     println!(rt)
 }
 
 // The bytes that a call wrote over the front of an output, or its refusal.
-fn wrote(
-    rt: &impl Print,
-    refusal: u32,
-    place: usize,
-    written: usize,
-    out: &[u8],
-) -> io::Result<()> {
-    if refusal != 0 {
+fn wrote(rt: &impl Print, written: Written, out: &[u8]) -> io::Result<()> {
+    if written.refusal != 0 {
         print!(rt; " ")?;
-        return refused(rt, refusal, place);
+        return refused(rt, written.refusal, written.place);
     }
-    for b in out.iter().take(written) {
-        print!(rt; " {b:02x}")?;
-    }
-    println!(rt)
+    bytes(rt, out, written.length)
 }
 
 // Striking a row.
@@ -93,7 +86,7 @@ fn strikes(rt: &impl Print, name: &str, table: &[u8], row: u32) -> io::Result<()
     print!(rt; "{name}, strike {row}:")?;
     let mut out = [0u8; 7];
     let struck = pierstride::pier_strike(table, row, &mut out);
-    wrote(rt, struck.refusal, struck.place, struck.length, &out)
+    wrote(rt, struck, &out)
 }
 
 // The suppliers of the rows that a row reaches.
@@ -101,7 +94,7 @@ fn lists(rt: &impl Print, name: &str, table: &[u8], row: u32) -> io::Result<()> 
     print!(rt; "{name}, suppliers of row {row}:")?;
     let mut out = [0u8; 7];
     let listed = pierstride::pier_suppliers(table, row, &mut out);
-    wrote(rt, listed.refusal, listed.place, listed.length, &out)
+    wrote(rt, listed, &out)
 }
 
 // A row's own bytes, or why there are none.
@@ -109,9 +102,10 @@ fn takes(rt: &impl Print, name: &str, table: &[u8], row: u32) -> io::Result<()> 
     print!(rt; "{name}, row {row}:")?;
     if let Some(why) = lookup::entry_refusal(table, row) {
         print!(rt; " ")?;
-        return refused(rt, why.reason.number() as u32, why.place);
+        return refused(rt, u32::from(why.reason.number()), why.place);
     }
-    bytes(rt, lookup::entry(table, row))
+    let part = lookup::entry(table, row);
+    bytes(rt, part, part.len())
 }
 
 // 00 and 65 times 40 00 00.
@@ -142,12 +136,11 @@ fn short_tables(rt: &impl Print) -> io::Result<()> {
 }
 
 fn strike_cases(rt: &impl Print) -> io::Result<()> {
-    let s = S;
-    strikes(rt, "00 02 20 01 40 01 02", &s, 0)?;
-    strikes(rt, "00 02 20 01 40 01 02", &s, 1)?;
-    strikes(rt, "00 02 20 01 40 01 02", &s, 3)?;
-    asks(rt, "00 02 20 01 40 01 02, question 0", &s, 0, 1000000)?;
-    asks(rt, "00 02 20 01 40 01 02, question 0", &s, 0, 0)
+    strikes(rt, "00 02 20 01 40 01 02", &S, 0)?;
+    strikes(rt, "00 02 20 01 40 01 02", &S, 1)?;
+    strikes(rt, "00 02 20 01 40 01 02", &S, 3)?;
+    asks(rt, "00 02 20 01 40 01 02, question 0", &S, 0, 1000000)?;
+    asks(rt, "00 02 20 01 40 01 02, question 0", &S, 0, 0)
 }
 
 // Two numbers too high, only the second, and one that is there in a body that is cut short.
@@ -254,9 +247,8 @@ fn rows_taken(rt: &impl Print, a: &[u8]) -> io::Result<()> {
 }
 
 fn main(rt: HostRuntime) -> io::Result<()> {
-    let a = A;
     let zeros = [0u8; 257];
-    table_a(&rt, &a)?;
+    table_a(&rt, &A)?;
     reads(&rt, "empty table", &zeros[..0])?;
     short_tables(&rt)?;
     reads(&rt, "256 bytes of 00", &zeros[..256])?;
@@ -267,6 +259,6 @@ fn main(rt: HostRuntime) -> io::Result<()> {
     against_itself(&rt)?;
     constrained(&rt)?;
     supplied(&rt)?;
-    rows_taken(&rt, &a)?;
+    rows_taken(&rt, &A)?;
     takes(&rt, "empty table", &zeros[..0], 0)
 }

@@ -1,5 +1,6 @@
 // The services for the catalogue server: each takes a table's bytes, or a text, reads it first, and answers a struct of plain numbers.
-// `refusal` is 01's number, 0 for none, and `place` its place; a field that says nothing in a case is 0.
+// `refusal` is 01's number, 0 for none, and `place` its place; a field that says nothing in a case is 0. Each struct says both again, since C reads it as it
+// stands in memory.
 #![tactic(auto)]
 
 ghost use Rattle.std.specs.Prelude.{◌≡◌, ◌≤◌, ◌^◌, leb};
@@ -13,6 +14,7 @@ ghost use Rattle.pierstride.specs.Services.{read_answer, decide_answer, possible
 ghost use Rattle.pierstride.specs.Services.{suppliers_answer, suppliers_output, breaks_answer, dimacs_answer, dimacs_output};
 
 use belnap::Decision;
+use decide::Facts;
 use entries::refusals::{Reason, Refusal};
 use lookup::Part;
 use table::Table;
@@ -47,7 +49,7 @@ pub struct Remaining {
     pub set: u32,
 }
 
-// The replies to a question.
+// The replies to a question, as numbers for C.
 pub const HOLDS: u32 = 1;
 
 pub const FAILS: u32 = 2;
@@ -106,7 +108,7 @@ pub fn pier_read(table: &[u8]) -> Counts
             predicates: t.predicates as u32,
         },
         Err(why) => Counts {
-            refusal: why.reason.number() as u32,
+            refusal: u32::from(why.reason.number()),
             place: why.place,
             rows: 0,
             questions: 0,
@@ -148,10 +150,10 @@ pub fn pier_decide(table: &[u8], row: u32, request: u32) -> Decided
         Ok(v) => Decided {
             refusal: 0,
             place: 0,
-            code: belnap::code_of(v) as u32,
+            code: u32::from(belnap::code_of(v)),
         },
         Err(why) => Decided {
-            refusal: why.reason.number() as u32,
+            refusal: u32::from(why.reason.number()),
             place: why.place,
             code: 0,
         },
@@ -166,12 +168,12 @@ fn decide_row(table: &[u8], row: usize, request: u32) -> Result<Decision, Refusa
     Ok(decide::decide(t, row, request))
 }
 
-// Whether each predicate that is yes is known.
-fn all_known(known: u32, request: u32) -> bool
-    ensures { result ≡ known_below predicate_limit known request }
+// Whether each predicate that is yes is known. By `all` over the range the code is shorter by two lines, and its proof longer by a law over ranges.
+fn all_known(facts: Facts) -> bool
+    ensures { result ≡ known_below predicate_limit facts.known facts.yes }
 {
     for i in 0..PREDICATES {
-        if decide::bit_of(request, i) & !decide::bit_of(known, i) {
+        if decide::bit_of(facts.yes, i) & !decide::bit_of(facts.known, i) {
             return false;
         }
     }
@@ -179,36 +181,40 @@ fn all_known(known: u32, request: u32) -> bool
 }
 
 // Whether the masks of a request with missing facts are bad.
-fn masks_bad(known: u32, request: u32) -> bool
-    ensures { result ≡ bad_masks known request }
+fn masks_bad(facts: Facts) -> bool
+    ensures { result ≡ bad_masks facts.known facts.yes }
 {
-    (mask_beyond(known) | mask_beyond(request)) | !all_known(known, request)
+    (mask_beyond(facts.known) | mask_beyond(facts.yes)) | !all_known(facts)
 }
 
 // Which decisions remain possible for a row, with these predicates known and these of them yes.
 pub fn pier_possible(table: &[u8], row: u32, known: u32, request: u32) -> Remaining
     ensures { result ≡ possible_answer table.now row known request }
 {
-    match possible_of_row(table, row as usize, known, request) {
+    let facts = Facts {
+        known,
+        yes: request,
+    };
+    match possible_of_row(table, row as usize, facts) {
         Ok(set) => Remaining {
             refusal: 0,
             place: 0,
-            set: set as u32,
+            set: u32::from(set),
         },
         Err(why) => Remaining {
-            refusal: why.reason.number() as u32,
+            refusal: u32::from(why.reason.number()),
             place: why.place,
             set: 0,
         },
     }
 }
 
-fn possible_of_row(table: &[u8], row: usize, known: u32, request: u32) -> Result<u8, Refusal>
-    ensures { said result ≡ masked (says_possible table.now row known request) }
+fn possible_of_row(table: &[u8], row: usize, facts: Facts) -> Result<u8, Refusal>
+    ensures { said result ≡ masked (says_possible table.now row facts.known facts.yes) }
 {
     let t = table::accept(table)?;
-    ask(t.tally.rows <= row, masks_bad(known, request))?;
-    Ok(possible::possible(t, row, known, request))
+    ask(t.tally.rows <= row, masks_bad(facts))?;
+    Ok(possible::possible(t, row, facts))
 }
 
 // The verdict on a question, within a budget of visits.
@@ -223,7 +229,7 @@ pub fn pier_verdict(table: &[u8], question: u32, budget: u32) -> Verdict
         Ok(Reply::Holds(visits)) => (0, 0, HOLDS, 0, visits),
         Ok(Reply::Fails(request, visits)) => (0, 0, FAILS, request, visits),
         Ok(Reply::Unfinished(visits)) => (0, 0, UNFINISHED, 0, visits),
-        Err(why) => (why.reason.number() as u32, why.place, 0, 0, 0),
+        Err(why) => (u32::from(why.reason.number()), why.place, 0, 0, 0),
     };
     Verdict {
         refusal,
@@ -258,10 +264,10 @@ pub fn pier_breaks(table: &[u8], question: u32, request: u32) -> Judged
         Ok(broken) => Judged {
             refusal: 0,
             place: 0,
-            breaks: broken as u32,
+            breaks: u32::from(broken),
         },
         Err(why) => Judged {
-            refusal: why.reason.number() as u32,
+            refusal: u32::from(why.reason.number()),
             place: why.place,
             breaks: 0,
         },
@@ -289,7 +295,7 @@ pub fn pier_entry(table: &[u8], row: u32) -> Located
             length: part.length,
         },
         Err(why) => Located {
-            refusal: why.reason.number() as u32,
+            refusal: u32::from(why.reason.number()),
             place: why.place,
             start: 0,
             length: 0,
@@ -308,7 +314,7 @@ fn answer_of(output: Result<usize, Refusal>) -> Written
             length,
         },
         Err(why) => Written {
-            refusal: why.reason.number() as u32,
+            refusal: u32::from(why.reason.number()),
             place: why.place,
             length: 0,
         },

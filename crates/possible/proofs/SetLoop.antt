@@ -1,41 +1,38 @@
--- Sets filled in from entries, of rows and of questions alike: one turn of the loop, and what stands at a number. Then the set of a row of a table.
+-- Sets filled in from entries, of rows and of questions alike: that the masks are those of the sets, and what stands at a number.
+-- Then the set of a row of a table.
 -- Assumes nothing.
-use mathlib.Core.Path.{◌≡◌, ap, ◌∙◌}
+use mathlib.Core.Path.{◌≡◌, refl, ap, ◌∙◌}
 use mathlib.Core.List.{List, ◌++◌, map}
 use Prim.Native.Nat.{ℕ, ◌+◌, ◌<◌, min}
 use native.Mathlib.Omega.{arith}
-use lib.ListN.{length, get_or, take, drop, set, length-append, length-map, length-drop}
+use lib.ListN.{length, get_or, take, drop, length-append, length-map, length-drop}
 use lib.Seq.{length-take-le}
 use Rattle.std.proofs.lemmas.List.{get_or-take}
 use Rattle.belnap.specs.declared.Decision.TheVariants.{U}
 use Rattle.entries.specs.declared.Entry.{Entry}
 use Rattle.entries.specs.Entries.{blank}
-use Rattle.decide.specs.Rows.{values, value_at}
-use Rattle.decide.proofs.RowByRow.{values_length, same_value, coded_at, coded_get, coded_turn}
+use Rattle.decide.specs.Rows.{values, value_at, FilledBy}
+use Rattle.decide.proofs.RowByRow.{values_length, same_value, values_coded, coded_get}
+use Rattle.decide.proofs.Filled.{filled_values}
 use Rattle.possible.specs.Sets.{Finite, decisions, Set, single, mask, of_mask}
 use Rattle.possible.specs.Possible.{set_of, possible}
 use Rattle.possible.specs.Filled.{filled}
 use Rattle.possible.proofs.Masks.{of_mask_lem}
 
--- the masks of the first i entries stand in front of what was there; a number that none of them has reads as z
-module _ (F : Finite) (f : Entry → Set F → Set F → Set F) (z : Set F) (es : List Entry) (i : ℕ) (out₀ out : List ℕ)
-    (is : out ≡ map (mask F) (values f z es i) ++ drop i out₀) where
-  earlier_set : (a : ℕ) → of_mask F (get_or (take i out) a (mask F z)) ≡ get_or (values f z es i) a z
-  earlier_set a = ap (of_mask F) (coded_at f z (mask F) es i out₀ out is a) ∙ of_mask_lem F (get_or (values f z es i) a z)
+module _ (F : Finite) (f : Entry → Set F → Set F → Set F) (z : Set F) (es : List Entry) where
+  -- the masks that a rule on masks fills in are those of the sets
+  pub sets_filled : {answers : Entry → ℕ → ℕ → ℕ → Type 0} {old new : List ℕ} → FilledBy answers (mask F z) es (min (length es) (length old)) old new →
+      ((e : Entry) (s t v : ℕ) → answers e s t v → v ≡ mask F (f e (of_mask F s) (of_mask F t))) → new ≡ filled F f z es old
+  sets_filled {old = old} h is =
+      let end = min (length es) (length old) in
+      let masks = λ (e : Entry) (s t : ℕ). mask F (f e (of_mask F s) (of_mask F t)) in
+      filled_values h (omega arith) masks is
+      ∙ ap (λ (l : List ℕ). l ++ drop end old) (values_coded f z (mask F) masks (λ e s t. rw (of_mask_lem F s, of_mask_lem F t) refl) es end)
 
-  pub filled_set : (j : ℕ) → j < i → of_mask F (get_or out j 0) ≡ value_at f z es j
-  filled_set j h = ap (of_mask F) (coded_get f z (mask F) es i out₀ out is j h) ∙ of_mask_lem F (value_at f z es j)
-
-  -- s and t are the masks at the entry's two numbers
-  pub set_turn : (s t v : ℕ) → i < length out₀ → let e = get_or es i blank in
-      s ≡ get_or (take i out) e.a (mask F z) → t ≡ get_or (take i out) e.b (mask F z) →
-      v ≡ mask F (f e (of_mask F s) (of_mask F t)) →
-      set out i v ≡ map (mask F) (values f z es (i + 1)) ++ drop (i + 1) out₀
-  unfolding value_at
-  set_turn s t v l p q e =
-      let x = ap (of_mask F) p ∙ earlier_set (get_or es i blank).a in
-      let y = ap (of_mask F) q ∙ earlier_set (get_or es i blank).b in
-      coded_turn f z (mask F) es i out₀ out is v l (e ∙ rw (x, y))
+  -- the set at a number, where the masks of the first i entries stand in front of what was there
+  pub filled_set : (i : ℕ) (out₀ out : List ℕ) → out ≡ map (mask F) (values f z es i) ++ drop i out₀ →
+      (j : ℕ) → j < i → of_mask F (get_or out j 0) ≡ value_at f z es j
+  filled_set i out₀ out is j h = ap (of_mask F) (coded_get f z (mask F) es i out₀ out is j h) ∙ of_mask_lem F (value_at f z es j)
 
 -- filling keeps the length
 pub filled_length : (F : Finite) (f : Entry → Set F → Set F → Set F) (z : Set F) (es : List Entry) (out₀ out : List ℕ) → out ≡ filled F f z es out₀ →

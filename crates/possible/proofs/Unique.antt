@@ -16,7 +16,7 @@ pub one_mask : One mask_at.Post
 one_mask κs args exit = by_definition
 
 -- it answers nothing beside the output
-pub one_filling : OneOutput fill_sets.Post (λ κs exit. exit.1.1.1.0)
+pub one_filling : OneOutput fill_sets.Post (λ κs exit. exit.1.1.0)
 one_filling κs args e f a b p q = (refl, by_definition _ _ p q)
 
 pub one_set : One possible.Post

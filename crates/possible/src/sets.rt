@@ -1,4 +1,5 @@
 // Sets of decisions as masks in which u counts 1, d 2, g 4, c 8. The high bits of a number that is taken for a mask count nothing.
+// Masks, and no type of their own: C gets them so, and an image is looked up by them.
 ghost use Rattle.std.specs.Prelude.{ℕ, false, ◌≡◌, ◌*◌, ◌/◌, ◌%◌, ◌^◌, get_or};
 ghost use Rattle.operators.specs.Operators.{one, two};
 ghost use Rattle.possible.specs.Sets.{decisions, mask, of_mask, single, either, image_one, image_two};

@@ -1,10 +1,10 @@
 // A question's set of true and false, from the sets of rows, and how many rows it looks at.
-// A set of truths is a mask in which true counts 1 and false 2.
+// A set of truths is a mask in which true counts 1 and false 2, as one of decisions is a mask (possible::sets).
 #![tactic(auto)]
 
 mod tables;
 
-ghost use Rattle.std.specs.Prelude.{true, not, ◌&&◌, ◌≡◌, ◌≤◌, max};
+ghost use Rattle.std.specs.Prelude.{ℕ, true, false, not, ◌&&◌, ◌≡◌, ◌≤◌, ◌*◌, ◌/◌, ◌%◌, ◌^◌, get_or, max};
 ghost use Rattle.belnap.specs.Orders.{at_or_below};
 ghost use Rattle.entries.specs.Entries.{number_limit};
 ghost use Rattle.possible.specs.Sets.{decisions, truths, single, image_one, image_two, mask, of_mask};
@@ -16,6 +16,17 @@ use belnap::orders::Order;
 use entries::Entry;
 use kinds::QuestionKind;
 
+// A comparison's outcomes as sixteen words: digit n of word m is for the sets with masks m and n, a choice from each by itself.
+fn table_of(order: Order) -> &'static [u64; 16]
+    ensures { (m n : ℕ) → get_or result.now (m % 16) 0 / 2 ^ (4 * (n % 16)) % 16
+        ≡ mask truths (image_two (at_or_below order) false (of_mask decisions m) (of_mask decisions n)) }
+{
+    match order {
+        Order::Truth => &tables::TRUTH_ORDER,
+        Order::Knowledge => &tables::KNOWLEDGE_ORDER,
+    }
+}
+
 // Every outcome of a comparison over every choice from two sets of decisions; where the numbers of both rows are equal, one choice serves both.
 fn compare_set(order: Order, equal: bool, s: u8, t: u8) -> u8
     ensures { result ≡ mask truths (image_two (at_or_below order) equal (of_mask decisions s) (of_mask decisions t)) }
@@ -23,11 +34,7 @@ fn compare_set(order: Order, equal: bool, s: u8, t: u8) -> u8
     if equal {
         return possible::sets::digit(tables::ORDER_OF_ITSELF, t);
     }
-    let i = (s % 16) as usize;
-    match order {
-        Order::Truth => possible::sets::digit(tables::TRUTH_ORDER[i], t),
-        Order::Knowledge => possible::sets::digit(tables::KNOWLEDGE_ORDER[i], t),
-    }
+    possible::sets::digit(table_of(order)[usize::from(s % 16)], t)
 }
 
 // "Not" over a set of truths.
@@ -44,8 +51,7 @@ fn both_set(equal: bool, x: u8, y: u8) -> u8
     if equal {
         possible::sets::digit(tables::BOTH_OF_ITSELF, y % 4)
     } else {
-        let i = (x % 4) as usize;
-        possible::sets::digit(tables::BOTH[i], y % 4)
+        possible::sets::digit(tables::BOTH[usize::from(x % 4)], y % 4)
     }
 }
 
@@ -66,22 +72,22 @@ pub fn fill_truths(questions: &[Entry], sets: &[u8], masks: &mut [u8])
     ensures { masks.new ≡
         filled truths (asks_set (set_at sets.now)) (single true) questions.now masks.old }
 {
-    let end = questions.len().min(masks.len());
-    for (i, e) in questions[..end].iter().enumerate() {
-        let done = &masks[..i];
-        let kind = kinds::as_question(e.kind);
-        let s = possible::mask_at(sets, e.a);
-        let t = possible::mask_at(sets, e.b);
-        let x = possible::mask_at(done, e.a);
-        let y = possible::mask_at(done, e.b);
-        let v = truth_set_by(kind, e.a == e.b, s, t, x, y);
-        masks[i] = v;
-    }
+    decide::rows::fill(
+        questions,
+        kinds::as_question,
+        1,
+        |kind, e, x, y| {
+            let s = possible::mask_at(sets, e.a);
+            let t = possible::mask_at(sets, e.b);
+            truth_set_by(kind, e.a == e.b, s, t, x, y)
+        },
+        masks,
+    );
 }
 
 // How many rows a question of this kind and these numbers looks at, where the questions that it names look at x and y.
 fn top_by(kind: QuestionKind, a: u8, b: u8, x: u16, y: u16) -> u16
-    ensures { result ≡ top_by kind a b x y }
+    ensures { (result ≡ top_by kind a b x y) × (x ≤ number_limit → y ≤ number_limit → result ≤ number_limit) }
 {
     match kind {
         QuestionKind::Compare(_) => u16::from(a.max(b)) + 1,
@@ -95,13 +101,12 @@ pub fn top_of(questions: &[Entry], question: u8) -> usize
     ensures { (result ≡ top_in questions.now question) × (result ≤ number_limit) }
 {
     let mut tops = [0u16; entries::NUMBERS];
-    let end = questions.len().min(entries::NUMBERS);
-    for (i, e) in questions[..end].iter().enumerate() {
-        let kind = kinds::as_question(e.kind);
-        let x = tops[entries::index(e.a)];
-        let y = tops[entries::index(e.b)];
-        let v = top_by(kind, e.a, e.b, x, y);
-        tops[i] = v;
-    }
+    decide::rows::fill(
+        questions,
+        kinds::as_question,
+        0,
+        |kind, e, x, y| top_by(kind, e.a, e.b, x, y),
+        &mut tops,
+    );
     usize::from(tops[entries::index(question)])
 }

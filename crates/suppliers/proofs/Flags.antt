@@ -3,7 +3,7 @@
 use mathlib.Core.Path.{◌≡◌, refl, sym, ap, ap₂, ◌∙◌}
 use mathlib.Core.Bool.{Bool, true, false, ◌&&◌, ◌||◌, and-true, and-false, or-false}
 use mathlib.Core.List.{List}
-use Prim.Native.Nat.{ℕ, zero, suc, ◌+◌, ◌-◌, ◌≤◌, ◌<◌}
+use Prim.Native.Nat.{ℕ, zero, suc, ◌+◌, ◌≤◌, ◌<◌}
 use native.Mathlib.Omega.{arith}
 use native.Mathlib.Numerals.{add-one}
 use lib.ListN.{length, get_or, set, replicate, length-set, length-replicate}
@@ -43,9 +43,6 @@ supplier_raised suppliers marks flags i s is h shows x =
     raised flags s (flag marks i) h x
     ∙ rw (shows x, is, add-one i) (sym (passing_some (λ k. eqb x (supplier_at suppliers k)) i (flag marks)))
 
--- what `flagged` is proved from
-pub ruleset raising = (supplier_raised, length-set)
-
 -- the rows that an entry names, raised where its own flag is set
 both_raised : (p on first second u v : Bool) →
     ((p || ((on && first) && u)) || ((on && second) && v)) ≡ (p || (on && ((first && u) || (second && v))))
@@ -83,25 +80,25 @@ module _ (rows : List Entry) (low : NameLower rows) (r : ℕ) where
       }
 
   -- one row further down; what it names is lower still
-  pub marked_more : (i : ℕ) (m later : List Bool) → 0 < i → Marked rows r i m →
-      ((x : ℕ) → flag later x ≡ (flag m x || (flag m (i - 1) && is_among (rows_named (get_or rows (i - 1) blank)) x))) → Marked rows r (i - 1) later
-  marked_more i m later some was now = record {
+  pub marked_more : (i : ℕ) (m later : List Bool) → Marked rows r (i + 1) m →
+      ((x : ℕ) → flag later x ≡ (flag m x || (flag m i && is_among (rows_named (get_or rows i blank)) x))) → Marked rows r i later
+  marked_more i m later was now = record {
     there = now r ∙ or_left (flag m r) _ was.there;
-    reached = λ x e. by x e (was.reached x) (λ on named. last_step rows low r (i - 1) x (was.reached (i - 1) on) named);
+    reached = λ x e. by x e (was.reached x) (λ on named. last_step rows low r i x (was.reached i on) named);
     followed = λ k a h e named. now a ∙ by k e
-        (λ on. by_equal k (i - 1)
+        (λ on. by_equal k i
         (λ q. or_right (flag m a) _ (ap₂ ◌&&◌ (ap (flag m) (sym q) ∙ on) (rw q at named)))
         (λ d. or_left (flag m a) _ (was.followed k a (omega (arith, d)) on named)))
-        (λ on above. absurd (omega (arith, low (i - 1) k above)));
+        (λ on above. absurd (omega (arith, low i k above)));
   }
     where
       by : {P : Type 0} (x : ℕ) → flag later x ≡ true → (flag m x ≡ true → P) →
-          (flag m (i - 1) ≡ true → is_among (rows_named (get_or rows (i - 1) blank)) x ≡ true → P) → P
+          (flag m i ≡ true → is_among (rows_named (get_or rows i blank)) x ≡ true → P) → P
       by x e f g =
           or_part (flag m x) _ (sym (now x) ∙ e) f
-          (λ e. let p = both_parts (flag m (i - 1)) (is_among (rows_named (get_or rows (i - 1) blank)) x) e in g p.0 p.1)
+          (λ e. let p = both_parts (flag m i) (is_among (rows_named (get_or rows i blank)) x) e in g p.0 p.1)
 
-  pub marked_all : (m : List Bool) → Marked rows r 0 m → Shows m (reaches_row rows r)
-  marked_all m done i =
+  pub marked_all : (n : ℕ) (m : List Bool) → n ≡ 0 → Marked rows r n m → Shows m (reaches_row rows r)
+  marked_all n m none done i =
       both_ways (flag m i) (reaches_row rows r i) (done.reached i)
-      (closed (λ k. flag m k ≡ true) rows (λ k a on named. done.followed k a (omega arith) on named) r r i done.there)
+      (closed (λ k. flag m k ≡ true) rows (λ k a on named. done.followed k a (omega (arith, none)) on named) r r i done.there)

@@ -20,7 +20,7 @@ fn reach(t: &Table, row: usize) -> [bool; Table::ROWS]
 {
     let mut marks = [false; Table::ROWS];
     marks[row] = true;
-    for i in (0..row + 1).rev() {
+    for i in (0..=row).rev() {
         let e = t.rows[i];
         let on = marks[i];
         marks[entries::index(e.a)] |= on & entries::names_row(e, 0);
@@ -30,7 +30,7 @@ fn reach(t: &Table, row: usize) -> [bool; Table::ROWS]
 }
 
 // The suppliers of the marked rows below a number.
-#[tactic(auto, using(crate::proofs::Flags::raising))]
+#[tactic(auto, using(std::proofs::lemmas::Slice::Zip::zip_end))]
 fn flagged(
     marks: &[bool; Table::ROWS],
     suppliers: &[u8; Table::ROWS],
@@ -40,8 +40,8 @@ fn flagged(
     ensures { Shows result (has suppliers.now (passing end (flag marks.now))) }
 {
     let mut flags = [false; entries::NUMBERS];
-    for i in 0..end {
-        flags[entries::index(suppliers[i])] |= marks[i];
+    for (s, on) in suppliers[..end].iter().zip(marks) {
+        flags[entries::index(*s)] |= *on;
     }
     flags
 }
@@ -70,8 +70,8 @@ fn put(flags: &[bool; entries::NUMBERS], out: &mut [u8]) -> usize
         (out.new ≡ passing number_limit (flag flags.now) ++ drop result out.old) }
 {
     let mut n = 0;
-    for s in 0..entries::NUMBERS {
-        if flags[s] {
+    for (s, on) in flags.iter().enumerate() {
+        if *on {
             out[n] = s as u8;
             n += 1;
         }

@@ -15,7 +15,9 @@ use entries::Entry;
 use entries::refusals::Refusal;
 use kinds::{Kind, RowKind};
 
-// A table just read: its constraints, rows and questions in order, a supplier a row, how many there are of each, and 01's n.
+// A table just read: its constraints, rows and questions in order, a supplier a row, how many there are of each, and 01's n. Arrays with their counts
+// beside: a table stands in fixed memory and goes by value, as the desk asks (docs/DECISIONS.md, "Required forms by place"). Any struct may be handed to
+// `decide`, `possible` and `walk`, so that it counts no more than it has room for is no invariant of the type, but asked where a part of it is lent (`Full`).
 #[derive(Clone, Copy)]
 pub struct Table {
     pub constraints: [Entry; Table::CONSTRAINTS],
@@ -26,7 +28,8 @@ pub struct Table {
     pub predicates: usize,
 }
 
-// A table with what reading came to beside it: it was read, or it is empty beside the refusal.
+// A table with what reading came to beside it: it was read, or it is empty beside the refusal. The form that the desk asks for (docs/DECISIONS.md,
+// "Required forms by place"); `accept` gives a `Result` of the table.
 #[derive(Clone, Copy)]
 pub struct Reading {
     pub table: Table,

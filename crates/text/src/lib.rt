@@ -22,7 +22,8 @@ use kinds::Kind;
 use table::steps::Tally;
 use table::{Table, steps, suppliers};
 
-// How many bytes the lines of entries have that have no suppliers: of constraints, or of questions.
+// How many bytes the lines of entries have that have no suppliers: of constraints, or of questions. Each function that writes has one that measures, here and
+// in the module below: nothing is written before every refusal is ruled out, and there is no heap to write into meanwhile.
 fn plain_size(entries: &[Entry]) -> usize
     requires { length entries.now ≤ row_limit }
     ensures { (result ≡ length (text_of entries.now)) × (result ≤ 30 * length entries.now) }
@@ -35,15 +36,16 @@ fn plain_size(entries: &[Entry]) -> usize
 }
 
 // How many bytes the lines of rows have, with those of their suppliers.
+#[tactic(auto, using(std::proofs::lemmas::Slice::Zip::zip_end))]
 fn rows_size(rows: &[Entry], suppliers: &[u8]) -> usize
     requires { (length suppliers.now ≡ length rows.now) × (length rows.now ≤ row_limit) }
     ensures { (result ≡ length (text_of (marked no_supplier suppliers.now rows.now))) × (result ≤ 60 * length rows.now) }
 {
     let mut size = 0;
     let mut force = suppliers::NONE;
-    for (i, e) in rows.iter().enumerate() {
-        size += lines::lines_size(force, suppliers[i], *e);
-        force = suppliers[i];
+    for (e, s) in rows.iter().zip(suppliers) {
+        size += lines::lines_size(force, *s, *e);
+        force = *s;
     }
     size
 }
@@ -74,6 +76,7 @@ fn put_plain(out: &mut [u8], at: usize, entries: &[Entry]) -> usize
 }
 
 // The lines of rows, with those of their suppliers.
+#[tactic(auto, using(std::proofs::lemmas::Slice::Zip::zip_end))]
 fn put_rows(out: &mut [u8], at: usize, rows: &[Entry], suppliers: &[u8]) -> usize
     requires fit { length suppliers.now ≡ length rows.now }
     requires room { at + length (text_of (marked no_supplier suppliers.now rows.now)) ≤ length out.old }
@@ -81,9 +84,9 @@ fn put_rows(out: &mut [u8], at: usize, rows: &[Entry], suppliers: &[u8]) -> usiz
 {
     let mut next = at;
     let mut force = suppliers::NONE;
-    for (i, e) in rows.iter().enumerate() {
-        next = lines::put_lines(out, next, force, suppliers[i], *e);
-        force = suppliers[i];
+    for (e, s) in rows.iter().zip(suppliers) {
+        next = lines::put_lines(out, next, force, *s, *e);
+        force = *s;
     }
     next
 }
@@ -125,7 +128,7 @@ pub struct Gathered {
     pub length: usize,
 }
 
-// 12 or 13 at the first bad line from a place on, where a line with this number begins; none where every line is spelled well.
+// The refusal of the first line that is spelled badly, from a place on, where a line with this number begins; none where every line is spelled well.
 fn bad_line(text: &[u8], from: usize, first: usize) -> Option<Refusal>
     requires { (from ≤ length text.now) × (first ≤ from + 1) }
     ensures { option_map told result ≡ bad_from first (drop from text.now) }
@@ -162,7 +165,8 @@ fn own_unless(why: Refusal, line: usize, text: &[u8], next: usize) -> Refusal
     bad_line(text, next, line + 1).unwrap_or(on_line(why, line))
 }
 
-// Whether an entry behind a supplier in force is no idle supplier; the next line would begin at a place.
+// Whether an entry behind a supplier in force is no idle supplier; the next line would begin at a place. Of a table's bytes `steps` says the same: what follows
+// is looked for in another way, and only behind a 60.
 #[tactic(auto, unfolding(table::specs::Steps::placed))]
 fn placed_line(e: Entry, force: u8, text: &[u8], next: usize) -> bool
     requires { next ≤ length text.now }

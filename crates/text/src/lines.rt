@@ -43,8 +43,7 @@ fn put_numbers(out: &mut [u8], at: usize, e: Entry) -> usize
     requires { at + length (each space (map decimal (numbers_in e))) ≤ length out.old }
     ensures { Put out.old at (each space (map decimal (numbers_in e))) result out.new }
 {
-    let kind = e.kind;
-    let numbers = entries::body_size(kind);
+    let numbers = entries::body_size(e.kind);
     if numbers == 0 {
         return at;
     }
@@ -60,8 +59,7 @@ pub(crate) fn put_line(out: &mut [u8], at: usize, e: Entry) -> usize
     requires { at + length (line_of e) ≤ length out.old }
     ensures { Put out.old at (line_of e) result out.new }
 {
-    let kind = e.kind;
-    let word = put_word(out, at, kind);
+    let word = put_word(out, at, e.kind);
     let numbers = put_numbers(out, word, e);
     decimal::put_byte(out, numbers, LINE_FEED)
 }
@@ -90,8 +88,7 @@ fn digits_of(n: u8) -> usize
 fn numbers_size(e: Entry) -> usize
     ensures { (result ≡ length (each space (map decimal (numbers_in e)))) × (result ≤ 8) }
 {
-    let kind = e.kind;
-    let numbers = entries::body_size(kind);
+    let numbers = entries::body_size(e.kind);
     if numbers == 0 {
         return 0;
     }
@@ -106,8 +103,7 @@ fn numbers_size(e: Entry) -> usize
 pub(crate) fn line_size(e: Entry) -> usize
     ensures { (result ≡ length (line_of e)) × (result ≤ 30) }
 {
-    let kind = e.kind;
-    let word = words::word_of(kind);
+    let word = words::word_of(e.kind);
     word.len() + numbers_size(e) + 1
 }
 
@@ -150,7 +146,7 @@ fn numbers_at(line: &[u8], end: usize, kind: Kind) -> Result<Entry, Refusal>
     let mut good = true;
     let mut a = 0;
     let mut b = 0;
-    // no step of one: the place goes on by the piece that was read
+    // no step of one: the place goes on by the piece that was read; and a misspelt number waits, since a large one behind it goes before
     while at < line.len() {
         let from = at + 1;
         let to = next_of(line, from, SPACE);

@@ -42,6 +42,7 @@ fn read_full(input: &mut impl Read, buffer: &mut [u8]) -> io::Result<usize>
     ensures { IfOk result (λ end. end ≤ length buffer.new) }
 {
     let mut end = 0;
+    // a `while`, since each read tells how far it went
     while end < buffer.len() {
         let more = input.read(&mut buffer[end..])?;
         if more == 0 {

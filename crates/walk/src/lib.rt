@@ -9,6 +9,7 @@ ghost use Rattle.walk.specs.Walk.{look, heeding, found_at, sees, ended, reply_of
 ghost use Rattle.walk.specs.Inner.{reply_in, breaks_in, bounds_in, count_of, plus_of, walk_from, goes_on, Lent};
 
 use constraints::Standing;
+use decide::Facts;
 use entries::Entry;
 use table::Table;
 
@@ -118,12 +119,15 @@ impl Walk<'_> {
         ensures sight { result ≡ sees_in self.old (2 ^ k - 1) facts }
         ensures kept { sees_in self.new ≡ sees_in self.old }
     {
-        let known = (1 << k) - 1;
-        let standing = constraints::met(self.constraints, known, facts);
+        let facts = Facts {
+            known: (1 << k) - 1,
+            yes: facts,
+        };
+        let standing = constraints::met(self.constraints, facts);
         if standing == Standing::Broken {
             return Look::Nothing;
         }
-        possible::fill_sets(self.rows, known, facts, &mut self.sets);
+        possible::fill_sets(self.rows, facts, &mut self.sets);
         questions::fill_truths(self.questions, &self.sets, &mut self.truths);
         heed(standing, look_of(self.truths[self.question]))
     }
@@ -182,7 +186,8 @@ pub fn verdict(t: Table, question: usize, budget: u32) -> Reply
     walk_at(t, question, n, 0, 0, budget)
 }
 
-// How many predicates a table has room for, and the least mask with a bit beyond them.
+// How many predicates a table has room for, and the least mask with a bit beyond them. The services have their own two,
+// in which an edit of theirs may err alone.
 const PREDICATES: u32 = Table::PREDICATES as u32;
 
 const MASKS: u32 = 1 << Table::PREDICATES;

@@ -6,6 +6,6 @@ use Rattle.constraints.proofs.met.Given as goal
 
 abbrev pub invariant-loop-e : goal.invariant-loop-e
 invariant-loop-e l = record {
-  unbroken : some (broken_by l.known l.facts) (take l.e-index l.constraints) ≡ false;
-  waited : some (waited_by l.known l.facts) (take l.e-index l.constraints) ≡ l.waits;
+  unbroken : some (broken_by l.facts.known l.facts.yes) (take l.e-index l.constraints) ≡ false;
+  waited : some (waited_by l.facts.known l.facts.yes) (take l.e-index l.constraints) ≡ l.waits;
 }

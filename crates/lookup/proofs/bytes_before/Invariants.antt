@@ -6,9 +6,9 @@ use Rattle.table.specs.Contents.{written}
 use Rattle.table.proofs.Marking.{force_at}
 use Rattle.lookup.proofs.bytes_before.Given as goal
 
-abbrev pub invariant-loop-i : goal.invariant-loop-i
-invariant-loop-i l = record {
-  counted : l.start ≡ length (written (marked no_supplier (take l.i l.t.suppliers) (take l.i l.t.rows)));
-  in_force : l.force ≡ force_at l.t.suppliers l.i;
-  few : l.start ≤ (size_limit + supplier_size) * l.i;
+abbrev pub invariant-loop-e : goal.invariant-loop-e
+invariant-loop-e l = record {
+  counted : l.start ≡ length (written (marked no_supplier (take (length l.yielded) l.t.suppliers) (take (length l.yielded) l.t.rows)));
+  in_force : l.force ≡ force_at l.t.suppliers (length l.yielded);
+  few : l.start ≤ (size_limit + supplier_size) * length l.yielded;
 }

@@ -12,11 +12,11 @@ loop-i-init c = refl
 pub returns-then-bit_of : goal.returns-then-bit_of
 returns-then-bit_of c =
     let unknown = rw (c.bit_of.ensures, c.bit_of-in-loop-i.ensures) at c.if-bit_of.true in
-    sym (known_never c.args.known c.args.request c.loop-i.i predicate_limit unknown (omega arith))
+    sym (known_never c.args.facts.known c.args.facts.yes c.loop-i.i predicate_limit unknown (omega arith))
 
 pub loop-i-preserved : goal.loop-i-preserved
 loop-i-preserved c =
-    known_more c.args.known c.args.request c.loop-i.i c.loop-i.invariant (rw (c.bit_of.ensures, c.bit_of-in-loop-i.ensures) at c.if-bit_of.false)
+    known_more c.args.facts.known c.args.facts.yes c.loop-i.i c.loop-i.invariant (rw (c.bit_of.ensures, c.bit_of-in-loop-i.ensures) at c.if-bit_of.false)
 
 pub returns : goal.returns
 returns c = let end : c.loop-i.i ≡ predicate_limit = omega arith in sym (rw end at c.loop-i.invariant)

@@ -4,4 +4,4 @@ use Rattle.pierstride.specs.Masks.{known_below}
 use Rattle.pierstride.proofs.all_known.Given as goal
 
 abbrev pub invariant-loop-i : goal.invariant-loop-i
-invariant-loop-i l = known_below l.i l.known l.request ≡ true
+invariant-loop-i l = known_below l.i l.facts.known l.facts.yes ≡ true

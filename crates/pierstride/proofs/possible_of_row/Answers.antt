@@ -17,9 +17,10 @@ pub returns-in_err-ask : goal.returns-in_err-ask
 returns-in_err-ask c =
     let o = opened _ _ c.in_ok-t.t c.accept.ensures c.in_ok-t.was in
     passed_on c.from_residual-in_err-ask.result c.in_err-ask.field-0.0 c.from_residual-in_err-ask.ensures.1
-    ∙ ap masked (unless_stops _ _ _ c.in_err-ask.ensures ∙ sym (possible_said o c.args.row c.args.known c.args.request _ c.masks_bad.ensures))
+    ∙ ap masked (unless_stops _ _ _ c.in_err-ask.ensures ∙ sym (possible_said o c.args.row c.args.facts.known c.args.facts.yes _ c.masks_bad.ensures))
 
 pub returns : goal.returns
 returns c =
     let o = opened _ _ c.in_ok-t.t c.accept.ensures c.in_ok-t.was in
-    possible_answers o c.args.row c.args.known c.args.request _ c.masks_bad.ensures (unless_passes _ c.in_ok-ask.ensures) c.possible.result c.possible.ensures
+    let passed = unless_passes _ c.in_ok-ask.ensures in
+    possible_answers o c.args.row c.args.facts.known c.args.facts.yes _ c.masks_bad.ensures passed c.possible.result c.possible.ensures

@@ -9,5 +9,5 @@ use Rattle.possible.proofs.possible.Goals as goal
 pub returns : goal.returns
 returns c =
     let a = c.args in
-    row_set a.t.rows a.known a.request a.row c.fill_sets.new.sets (replicate row_limit 0) (omega arith) c.if-row-ge-ROWS.false c.fill_sets.ensures
+    row_set a.t.rows a.facts.known a.facts.yes a.row c.fill_sets.new.sets (replicate row_limit 0) (omega arith) c.if-row-ge-ROWS.false c.fill_sets.ensures
     ∙ simp (lt-ltb _ _ c.if-row-ge-ROWS.false)

@@ -17,4 +17,4 @@ unfolding mask of_mask bit choosing image_one image_two
 returns-else-equal c =
     let a = c.args in
     let low : a.y % 4 % 16 ≡ a.y % 4 = omega arith in
-    rw c.if-equal.false (rw low at c.digit-else-equal.ensures ∙ in_words truths truths (omega arith) (image_two ◌&&◌ false) a.x a.y)
+    rw c.if-equal.false (rw (low, c.from.ensures) at c.digit-else-equal.ensures ∙ in_words truths truths (omega arith) (image_two ◌&&◌ false) a.x a.y)

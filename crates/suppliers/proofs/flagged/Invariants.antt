@@ -5,8 +5,8 @@ use Rattle.decide.specs.Reach.{passing}
 use Rattle.suppliers.specs.Suppliers.{has, flag, Shows}
 use Rattle.suppliers.proofs.flagged.Given as goal
 
-abbrev pub invariant-loop-i : goal.invariant-loop-i
-invariant-loop-i l = record {
+abbrev pub invariant-loop-s : goal.invariant-loop-s
+invariant-loop-s l = record {
   long : length l.flags ≡ number_limit;
-  shown : Shows l.flags (has l.suppliers (passing l.i (flag l.marks)));
+  shown : Shows l.flags (has l.suppliers (passing (length l.yielded) (flag l.marks)));
 }

@@ -5,4 +5,4 @@ use Rattle.kinds.proofs.words.guess.Goals as goal
 
 pub returns : goal.returns
 unfolding word_of
-returns c kind is = rw is (guessed kind)
+returns c kind is = rw (c.from-first.ensures, c.from-last.ensures, is) (guessed kind)
