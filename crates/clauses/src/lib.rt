@@ -39,7 +39,7 @@ pub enum Rule {
     OrAndOr(Literal, Literal, Literal, Literal, Literal),
 }
 
-// The rules of an entry.
+// The rules of an entry, two at most, without a heap.
 #[derive(Clone, Copy, Debug, PartialEq, Eq)]
 pub enum Rules {
     None,

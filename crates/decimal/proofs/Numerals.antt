@@ -19,6 +19,7 @@ use Rattle.decimal.specs.Decimal.{base, zero_digit, is_digit, digits, decimal, d
 use Rattle.decimal.specs.Decimal.{number_said}
 use Rattle.decimal.specs.declared.Misread.TheVariants.{Large, Misspelt}
 use Rattle.std.specs.Prelude.{Ok, Err}
+use Rattle.std.specs.Char.{is_ascii_digit}
 
 -- a conjunction of what is true
 both : (p q : Bool) → p ≡ true → q ≡ true → (p && q) ≡ true
@@ -52,6 +53,13 @@ decimal_law P low high n = go (suc n) n (omega arith)
         by_order n base
         (λ l. rw (decimal_low n l) (low n l))
         (λ l. rw (decimal_high n l) (high n (decimal (n / base)) l (go f (n / base) (omega arith))))
+
+-- the library's digits are those of the definition
+ascii_digit : (x : ℕ) → is_ascii_digit x ≡ is_digit x
+ascii_digit x =
+    by_order x (zero_digit + base)
+    (λ l. rw (lt-ltb x (zero_digit + base) l, le-leb x 57 (omega arith)))
+    (λ l. rw (le-ltb x (zero_digit + base) l, lt-leb x 57 (omega arith)))
 
 -- a digit's byte
 pub digit_is : (n : ℕ) → n < base → is_digit (zero_digit + n) ≡ true
@@ -228,17 +236,17 @@ pub seen_none : (p : List ℕ) → Seen p 0 0
 seen_none p = record { alone = refl; near = (λ l. refl, λ l. l) }
 
 -- with one digit more
-pub seen_next : (p : List ℕ) (i v w : ℕ) → Seen p i v → i < length p → is_digit (get_or p i 0) ≡ true →
+pub seen_next : (p : List ℕ) (i v w : ℕ) → Seen p i v → i < length p → is_ascii_digit (get_or p i 0) ≡ true →
     w ≡ cond (ltb v number_limit) (v * base + (get_or p i 0 - zero_digit)) v → Seen p (i + 1) w
 seen_next p i v w h l d q = record {
-  alone = alone_next p i l h.alone d;
+  alone = alone_next p i l h.alone (sym (ascii_digit (get_or p i 0)) ∙ d);
   near = rw (q, add-one i, take-suc p i 0 l, value_more 0 (take i p) (get_or p i 0)) (near_more v (value_from 0 (take i p)) (get_or p i 0) h.near);
 }
 
 -- what is said of a piece with another byte among its digits; and once every byte was seen, by the code's value
-pub said_other : (p : List ℕ) (i : ℕ) → i < length p → is_digit (get_or p i 0) ≡ false → number_said p ≡ Err Misspelt
+pub said_other : (p : List ℕ) (i : ℕ) → i < length p → is_ascii_digit (get_or p i 0) ≡ false → number_said p ≡ Err Misspelt
 unfolding number_said too_large well_spelled
-said_other p i l d = rw (not_alone p i l d)
+said_other p i l d = rw (not_alone p i l (sym (ascii_digit (get_or p i 0)) ∙ d))
 
 module _ (p : List ℕ) (i v : ℕ) (seen : Seen p i v) (end : length p ≤ i) where
   whole : (digits_alone p ≡ true) × Near v (value_from 0 p)

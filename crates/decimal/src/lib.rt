@@ -6,10 +6,7 @@ ghost use Rattle.entries.specs.Entries.{number_limit};
 ghost use Rattle.decimal.specs.Decimal.{base, zero_digit, is_digit, decimal, unpadded, number_said};
 ghost use Rattle.decimal.specs.Put.{Stores};
 
-const BASE: u8 = 10;
-
-// How many numbers have one digit.
-const ONE_DIGIT: usize = BASE as usize;
+const BASE: usize = 10;
 
 pub const SPACE: u8 = b' ';
 
@@ -31,11 +28,11 @@ pub fn put_byte(out: &mut [u8], at: usize, byte: u8) -> usize
 pub fn put_decimal(out: &mut [u8], at: usize, n: usize) -> usize
     ensures { Stores out.old at (decimal n) result out.new }
 {
-    if n < ONE_DIGIT {
+    if n < BASE {
         return put_byte(out, at, b'0' + n as u8);
     }
-    let next = put_decimal(out, at, n / ONE_DIGIT);
-    put_byte(out, next, b'0' + (n % ONE_DIGIT) as u8)
+    let next = put_decimal(out, at, n / BASE);
+    put_byte(out, next, b'0' + (n % BASE) as u8)
 }
 
 // How many digits a number has: one, and one more for each time that it can be divided.
@@ -46,8 +43,8 @@ pub fn decimal_size(n: usize) -> usize
     let mut size = 1;
     let mut rest = n;
     // a `while`, since each step divides
-    while ONE_DIGIT <= rest {
-        rest /= ONE_DIGIT;
+    while BASE <= rest {
+        rest /= BASE;
         size += 1;
     }
     size
@@ -60,19 +57,13 @@ pub enum Misread {
     Misspelt,
 }
 
-fn is_digit(x: u8) -> bool
-    ensures { result ≡ is_digit x }
-{
-    (b'0' <= x) & (x < b'0' + BASE)
-}
-
 // A value with a digit more; one above 255 stays as it is.
 fn grown(v: usize, x: u8) -> usize
     requires { is_digit x ≡ true }
     ensures { result ≡ cond (ltb v number_limit) (v * base + (x - zero_digit)) v }
 {
     if v < entries::NUMBERS {
-        return v * ONE_DIGIT + usize::from(x - b'0');
+        return v * BASE + usize::from(x - b'0');
     }
     v
 }
@@ -94,7 +85,7 @@ pub fn number_of(piece: &[u8]) -> Result<u8, Misread>
 {
     let mut v = 0;
     for x in piece {
-        if !is_digit(*x) {
+        if !x.is_ascii_digit() {
             return Err(Misread::Misspelt);
         }
         v = grown(v, *x);

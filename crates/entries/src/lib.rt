@@ -75,13 +75,7 @@ pub fn names_row(e: Entry, i: usize) -> bool
     ensures { result ≡ names_row i e }
 {
     let form = kinds::form_of(e.kind);
-    match form.names {
-        Names::Nothing => false,
-        Names::Predicates => false,
-        Names::Rows => i < form.numbers,
-        Names::Questions => false,
-        Names::Suppliers => false,
-    }
+    (form.names == Names::Rows) & (i < form.numbers)
 }
 
 // An entry's bytes, written onto the front of a lent output where they fit; their number comes back either way.

@@ -12,7 +12,7 @@ use entries::refusals::{Reason, Refusal};
 use kinds::{ConstraintKind, Kind};
 use table::{Table, suppliers};
 
-// Where a part of a table starts, and how many bytes it has, as C's answer says it.
+// Where a part of a table starts, and how many bytes it has: the two numbers of C's answer, which a range would have to be turned into.
 #[derive(Clone, Copy, Debug, PartialEq, Eq)]
 pub struct Part {
     pub start: usize,

@@ -117,7 +117,7 @@ pub fn pier_read(table: &[u8]) -> Counts
     }
 }
 
-// How many predicates a mask has a bit for, and the least mask with a bit beyond them.
+// How many predicates a mask has a bit for, and the least mask with a bit beyond them. The walk has its own two, so that an edit of these errs alone.
 const PREDICATES: u8 = Table::PREDICATES as u8;
 
 const MASKS: u32 = 1 << Table::PREDICATES;

@@ -85,7 +85,8 @@ pub fn fill_truths(questions: &[Entry], sets: &[u8], masks: &mut [u8])
     );
 }
 
-// How many rows a question of this kind and these numbers looks at, where the questions that it names look at x and y.
+// How many rows a question of this kind and these numbers looks at, where the questions that it names look at x and y. The kind is handed over beside the
+// numbers, since `fill` has read it as a question's, which an entry's own is not.
 fn top_by(kind: QuestionKind, a: u8, b: u8, x: u16, y: u16) -> u16
     ensures { (result ≡ top_by kind a b x y) × (x ≤ number_limit → y ≤ number_limit → result ≤ number_limit) }
 {

@@ -18,6 +18,7 @@ use kinds::{Kind, RowKind};
 // A table just read: its constraints, rows and questions in order, a supplier a row, how many there are of each, and 01's n. Arrays with their counts
 // beside: a table stands in fixed memory and goes by value, as the desk asks (docs/DECISIONS.md, "Required forms by place"). Any struct may be handed to
 // `decide`, `possible` and `walk`, so that it counts no more than it has room for is no invariant of the type, but asked where a part of it is lent (`Full`).
+// A row's supplier stands beside the rows and not in each entry, since deciding and walking go over entries and need none. A table is not printed or compared.
 #[derive(Clone, Copy)]
 pub struct Table {
     pub constraints: [Entry; Table::CONSTRAINTS],

@@ -20,6 +20,7 @@ pub struct Tally {
 }
 
 // What the bytes from a kind byte on are: of no listed kind, of a kind whose body is cut short, or an entry.
+// No `Result`: which refusal it is hangs on what stands before, so none is passed on by `?`.
 #[derive(Clone, Copy, Debug, PartialEq, Eq)]
 pub enum Decoded {
     Unknown,
@@ -201,7 +202,8 @@ fn row_at(s: &[u8], at: usize) -> bool
     kinds::of_row(kinds::kind_of(s[at]))
 }
 
-// Whether an entry behind a supplier in force is no idle supplier; the next entry's kind byte would stand at a place.
+// Whether an entry behind a supplier in force is no idle supplier; the next entry's kind byte would stand at a place. Of a text
+// `placed_line` says the same: one function for both would be lent how to look for what follows.
 #[tactic(auto, unfolding(crate::specs::Steps::placed))]
 fn placed_at(e: Entry, force: u8, s: &[u8], next: usize) -> bool
     ensures { result ≡ placed e force (begins_row (drop next s.now)) }

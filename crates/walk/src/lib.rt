@@ -60,11 +60,7 @@ fn heed(standing: Standing, seen: Look) -> Look
 fn goes_on(seen: Look, k: u32, n: u32) -> bool
     ensures { result ≡ goes_on seen k n }
 {
-    match seen {
-        Look::Nothing => false,
-        Look::Found => false,
-        Look::Open => k < n,
-    }
+    (seen == Look::Open) & (k < n)
 }
 
 // The reply of a visit below which none is made.

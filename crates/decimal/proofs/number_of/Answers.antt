@@ -5,7 +5,7 @@ use Rattle.decimal.proofs.number_of.Goals as goal
 
 pub loop-x-preserved : goal.loop-x-preserved
 loop-x-preserved c =
-    seen_next _ _ _ _ c.loop-x.invariant c.loop-x-test.true (sym c.is_digit.ensures ∙ c.if-not-is_digit.false) c.grown-v.ensures
+    seen_next _ _ _ _ c.loop-x.invariant c.loop-x-test.true (sym c.is_ascii_digit.ensures.value ∙ c.if-not-is_ascii_digit.false) c.grown-v.ensures
 
 pub returns-then-is_unpadded : goal.returns-then-is_unpadded
 returns-then-is_unpadded c =
