@@ -16,7 +16,8 @@ OneOutput {K} {X} {A} {E} P out =
 -- one part of a lent slice: the same bytes at the same place in memory
 abbrev pub OnePart : {K : Type 0} {X E : K → Type 0} → ((κs : K) → X κs → Bor (List ℕ) → E κs → Type 0) → Type 0
 OnePart {K} {X} {E} P =
-    (κs : K) (args : X κs) (exit : E κs) (a b : Bor (List ℕ)) → P κs args a exit → P κs args b exit → (a.now ≡ b.now) × (a.ref_ptr ≡ b.ref_ptr)
+    (κs : K) (args : X κs) (exit : E κs) (a b : Bor (List ℕ)) → P κs args a exit → P κs args b exit →
+    (a.now ≡ b.now) × (a.ref_ptr ≡ b.ref_ptr)
 
 -- one content, wherever in memory it stands
 abbrev pub OneContent : {K : Type 0} {X E : K → Type 0} → ((κs : K) → X κs → Bor (List ℕ) → E κs → Type 0) → Type 0

@@ -87,12 +87,14 @@ kept kind a b = satisfies (truths a b b) (clauses_of (constraint_rule kind (yes 
 never_says : (a b : Bool) → kept NeverBoth a b ≡ keeps NeverBoth a b
 never_says true true = refl
 never_says true false = refl
-never_says false b = refl
+never_says false true = refl
+never_says false false = refl
 
 only_says : (a b : Bool) → kept OnlyIf a b ≡ keeps OnlyIf a b
 only_says true true = refl
 only_says true false = refl
-only_says false b = refl
+only_says false true = refl
+only_says false false = refl
 
 module _ (A : ℕ → Bool) where
   -- an assignment that says these decisions of a row and of those that it names

@@ -41,7 +41,8 @@ clauses_of (AndOr t a b c) =
     (negated t ∷ a ∷ []) ∷ (negated t ∷ b ∷ c ∷ []) ∷ (t ∷ negated a ∷ negated b ∷ []) ∷ (t ∷ negated a ∷ negated c ∷ []) ∷ []
 clauses_of (OrAndOr t a b c d) =
     (negated t ∷ a ∷ b ∷ []) ∷ (negated t ∷ c ∷ d ∷ [])
-    ∷ (t ∷ negated a ∷ negated c ∷ []) ∷ (t ∷ negated a ∷ negated d ∷ []) ∷ (t ∷ negated b ∷ negated c ∷ []) ∷ (t ∷ negated b ∷ negated d ∷ []) ∷ []
+    ∷ (t ∷ negated a ∷ negated c ∷ []) ∷ (t ∷ negated a ∷ negated d ∷ [])
+    ∷ (t ∷ negated b ∷ negated c ∷ []) ∷ (t ∷ negated b ∷ negated d ∷ []) ∷ []
 
 -- "t = a or b" is "-t = -a and -b"
 abbrev pub any_of : Literal → Literal → Literal → Rule

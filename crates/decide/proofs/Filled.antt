@@ -65,7 +65,8 @@ module _ {A : Type 0} {answers : Entry → A → A → A → Type 0} {z : A} {es
 
 -- and in an array that was all z
 pub filled_array : {A : Type 0} {answers : Entry → A → A → A → Type 0} {z : A} {es : List Entry} {n : ℕ} {new : List A} (m : ℕ) →
-    FilledBy answers z es n (replicate m z) new → n ≤ m → (f : Entry → A → A → A) → ((e : Entry) (x y v : A) → answers e x y v → v ≡ f e x y) →
+    FilledBy answers z es n (replicate m z) new → n ≤ m → (f : Entry → A → A → A) →
+    ((e : Entry) (x y v : A) → answers e x y v → v ≡ f e x y) →
     new ≡ padded z m (values f z es n)
 filled_array {z = z} {es} {n} m h room f is =
     filled_values h (rw (length-replicate m z) room) f is ∙ rw (drop-replicate n m z, values_length f z es n) refl

@@ -56,7 +56,8 @@ module _ {A : Type 0} (f : Entry → A → A → A) (z : A) where
   same_values es fs zero h = refl
   same_values es fs (suc n) h = let ih = same_values es fs n (λ i l. h i (omega arith)) in rw (ih, h n (omega arith))
 
-  pub same_value : (es fs : List Entry) (i : ℕ) → ((j : ℕ) → j ≤ i → get_or es j blank ≡ get_or fs j blank) → value_at f z es i ≡ value_at f z fs i
+  pub same_value : (es fs : List Entry) (i : ℕ) → ((j : ℕ) → j ≤ i → get_or es j blank ≡ get_or fs j blank) →
+      value_at f z es i ≡ value_at f z fs i
   unfolding value_at
   same_value es fs i h = rw (same_values es fs i (λ j l. h j (omega arith)), h i (omega arith))
 
@@ -111,7 +112,8 @@ equal_values x e q = ap x (eqb-true e.a e.b q)
 
 -- two kinds of values side by side: what each row hands on from the numbers that it names holds of every row
 module _ {A B : Type 0} (R : A → B → Type 0) (f : Entry → A → A → A) (g : Entry → B → B → B) (z : A) (w : B) (es : List Entry) (base : R z w)
-    (step : (i : ℕ) (x : ℕ → A) (u : ℕ → B) → ((n : ℕ) → R (x n) (u n)) → R (from f (get_or es i blank) x) (from g (get_or es i blank) u)) where
+    (step : (i : ℕ) (x : ℕ → A) (u : ℕ → B) → ((n : ℕ) → R (x n) (u n)) →
+    R (from f (get_or es i blank) x) (from g (get_or es i blank) u)) where
   pub side_by_side : (i : ℕ) → R (value_at f z es i) (value_at g w es i)
   unfolding value_at
   side_by_side = by_rows (λ i. R (value_at f z es i) (value_at g w es i)) (λ i ih.

@@ -6,7 +6,7 @@ use entries::Entry;
 use kinds::Kind;
 
 // The value at a number of those filled so far; `none` at a number that is not there yet.
-fn value_at<T: Copy>(done: &[T], n: u8, none: T) -> T
+pub fn value_at<T: Copy>(done: &[T], n: u8, none: T) -> T
     ensures { result ≡ get_or done.now n none }
 {
     let at = entries::index(n);

@@ -188,7 +188,8 @@ decimal_within (suc k) n h l =
     (λ low. omega (arith, ap length (decimal_low n low)))
     (λ high. some k high l (λ more. decimal_within k (n / base) more))
   where
-    some : (k : ℕ) → base ≤ n → n < base ^ suc k → (0 < k → n / base < base ^ k → length (decimal (n / base)) ≤ k) → length (decimal n) ≤ suc k
+    some : (k : ℕ) → base ≤ n → n < base ^ suc k → (0 < k → n / base < base ^ k → length (decimal (n / base)) ≤ k) →
+        length (decimal n) ≤ suc k
     some zero high l on = absurd (omega arith)
     some (suc k) high l on = omega (arith, decimal_longer n high, on (omega arith) (omega (arith, pow-suc base (suc k))))
 

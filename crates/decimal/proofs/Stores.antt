@@ -44,7 +44,8 @@ stores_then {out} {mid} {left} {at} {next} {last} xs ys p q =
     })
 
 -- where there is room, all of it is stored
-pub put_fits : {out left : List ℕ} {at next : ℕ} (text : List ℕ) → Stores out at text next left → at + length text ≤ length out → Put out at text next left
+pub put_fits : {out left : List ℕ} {at next : ℕ} (text : List ℕ) → Stores out at text next left → at + length text ≤ length out →
+    Put out at text next left
 put_fits text s room = record { behind = omega (arith, room, s.reached); holds = s.stored }
 
 -- nothing put, and one text behind another

@@ -1,5 +1,6 @@
 -- A number in decimal, and what stands between and behind numbers (02, L2 and L7).
-use Rattle.std.specs.Prelude.{ℕ, zero, suc, ◌+◌, ◌-◌, ◌*◌, ◌/◌, ◌%◌, Bool, true, false, cond, not, ◌&&◌, List, [], ◌∷◌, ◌++◌, Result, Ok, Err, eqb, leb, ltb}
+use Rattle.std.specs.Prelude.{ℕ, zero, suc, ◌+◌, ◌-◌, ◌*◌, ◌/◌, ◌%◌, Bool, true, false, cond, not, ◌&&◌}
+use Rattle.std.specs.Prelude.{List, [], ◌∷◌, ◌++◌, Result, Ok, Err, eqb, leb, ltb}
 use Rattle.entries.specs.Lists.{every}
 use Rattle.entries.specs.Entries.{number_limit}
 use Rattle.decimal.specs.declared.Misread.{Misread}

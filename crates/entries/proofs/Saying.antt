@@ -41,7 +41,8 @@ unless_refusing zero x why q = inr q
 unless_refusing (suc n) x why q = inl (λ z. omega arith, cc)
 
 -- asked alone, it stops or lets pass what is said behind it
-pub unless_stops : {A : Type 0} (n : ℕ) (x : Said A) (why : Refusal) → refusing why ≡ unless {A = Unit {0}} n (answered (tt {0})) → refusing why ≡ unless n x
+pub unless_stops : {A : Type 0} (n : ℕ) (x : Said A) (why : Refusal) → refusing why ≡ unless {A = Unit {0}} n (answered (tt {0})) →
+    refusing why ≡ unless n x
 unless_stops zero x why q = not_both (sym q)
 unless_stops (suc n) x why q = let same : why ≡ refusal (suc n) 0 = cc in ap refusing same
 
@@ -57,7 +58,8 @@ unless_twice (suc n) m x = refl
 -- the reasons by their numbers, from 1 on; so a number is that of one reason, and 0 of none
 abbrev every_reason : List Reason
 every_reason =
-    Unlisted ∷ CutShort ∷ PredicateTooHigh ∷ NotToBeNamed ∷ OutOfOrder ∷ TooManyRows ∷ TooManyQuestions ∷ NotThere ∷ StillNamed ∷ BadMask ∷ OutputTooShort
+    Unlisted ∷ CutShort ∷ PredicateTooHigh ∷ NotToBeNamed ∷ OutOfOrder ∷ TooManyRows ∷ TooManyQuestions
+    ∷ NotThere ∷ StillNamed ∷ BadMask ∷ OutputTooShort
     ∷ UnknownWord ∷ Misspelt ∷ TooManyConstraints ∷ IdleSupplier ∷ []
 
 abbrev reason_of : ℕ → Option Reason

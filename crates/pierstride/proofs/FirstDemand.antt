@@ -87,7 +87,8 @@ on_table own s f h = go (reading s) refl
     go (refusing why) e = inl (refused_at s why.number why.place e)
 
 -- 8, then 10
-asked : {A : Type 0} (own s : List ℕ) (missing bad : Bool) (v : A) → is_among own not_there ≡ true → (bad ≡ true → is_among own bad_mask ≡ true) →
+asked : {A : Type 0} (own s : List ℕ) (missing bad : Bool) (v : A) → is_among own not_there ≡ true →
+    (bad ≡ true → is_among own bad_mask ≡ true) →
     DueOf (Due own s) (unless (asked_wrongly missing bad) (answered v))
 asked own s true bad v e f = inr (e, refl)
 asked own s false true v e f = inr (f refl, refl)
@@ -122,7 +123,8 @@ pub verdict_tells : (s : List ℕ) (q budget : ℕ) →
     Tells (Due of_asking s) (says_verdict s q budget) (verdict_answer s q budget).refusal (verdict_answer s q budget).place
 unfolding says_verdict
 verdict_tells s q budget =
-    tells (Due of_asking s) verdict_of (λ a. a.refusal) (λ a. a.place) (never_zero of_asking s refl) answering (λ why. (refl, refl)) (says_verdict s q budget)
+    tells (Due of_asking s) verdict_of (λ a. a.refusal) (λ a. a.place) (never_zero of_asking s refl)
+    answering (λ why. (refl, refl)) (says_verdict s q budget)
     (on_table of_asking s _ (λ c. asked of_asking s (leb (length c.questions) q) false _ refl (λ e. never (sym e))))
   where
     answering : (reply : Reply) → ((replied_of reply).refusal ≡ 0) × ((replied_of reply).place ≡ 0)

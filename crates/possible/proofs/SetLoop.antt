@@ -21,7 +21,8 @@ use Rattle.possible.proofs.Masks.{of_mask_lem}
 
 module _ (F : Finite) (f : Entry → Set F → Set F → Set F) (z : Set F) (es : List Entry) where
   -- the masks that a rule on masks fills in are those of the sets
-  pub sets_filled : {answers : Entry → ℕ → ℕ → ℕ → Type 0} {old new : List ℕ} → FilledBy answers (mask F z) es (min (length es) (length old)) old new →
+  pub sets_filled : {answers : Entry → ℕ → ℕ → ℕ → Type 0} {old new : List ℕ} →
+      FilledBy answers (mask F z) es (min (length es) (length old)) old new →
       ((e : Entry) (s t v : ℕ) → answers e s t v → v ≡ mask F (f e (of_mask F s) (of_mask F t))) → new ≡ filled F f z es old
   sets_filled {old = old} h is =
       let end = min (length es) (length old) in
@@ -35,7 +36,8 @@ module _ (F : Finite) (f : Entry → Set F → Set F → Set F) (z : Set F) (es 
   filled_set i out₀ out is j h = ap (of_mask F) (coded_get f z (mask F) es i out₀ out is j h) ∙ of_mask_lem F (value_at f z es j)
 
 -- filling keeps the length
-pub filled_length : (F : Finite) (f : Entry → Set F → Set F → Set F) (z : Set F) (es : List Entry) (out₀ out : List ℕ) → out ≡ filled F f z es out₀ →
+pub filled_length : (F : Finite) (f : Entry → Set F → Set F → Set F) (z : Set F) (es : List Entry) (out₀ out : List ℕ) →
+    out ≡ filled F f z es out₀ →
     length out ≡ length out₀
 filled_length F f z es out₀ out e =
     let end = min (length es) (length out₀) in

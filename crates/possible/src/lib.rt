@@ -50,8 +50,7 @@ fn set_by(kind: RowKind, predicate: u8, equal: bool, facts: Facts, s: u8, t: u8)
 pub fn mask_at(masks: &[u8], n: u8) -> u8
     ensures { result ≡ get_or masks.now n 1 }
 {
-    let at = entries::index(n);
-    if at < masks.len() { masks[at] } else { 1 }
+    decide::rows::value_at(masks, n, 1)
 }
 
 // The sets of rows, each from those before it, into the front of what is lent, as many as there is room for.

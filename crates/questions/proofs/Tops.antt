@@ -22,7 +22,8 @@ use Rattle.questions.specs.Questions.{truth_set_by, asks_set}
 use Rattle.questions.specs.Inner.{top_by, top_of, top, top_in}
 
 -- a question looks at no more rows than a byte can number
-pub top_small : (k : QuestionKind) (a b x y v : ℕ) → v ≡ top_by k a b x y → a < number_limit → b < number_limit → x ≤ number_limit → y ≤ number_limit →
+pub top_small : (k : QuestionKind) (a b x y v : ℕ) → v ≡ top_by k a b x y → a < number_limit → b < number_limit →
+    x ≤ number_limit → y ≤ number_limit →
     v ≤ number_limit
 top_small (Compare o) a b x y v e p q r s = omega arith
 top_small Not a b x y v e p q r s = omega arith

@@ -66,7 +66,8 @@ pub record Strikes (s : List ℕ) (t : Table) : Type 0 where
   pub full : Full t
   pub missing : (r room : ℕ) → t.tally.rows ≤ r → struck_answer (reading s) r room ≡ refusing (refusal not_there 0)
   pub all : length s ≡ length (encoded (contents_in t))
-  pub named : (r room : ℕ) → r < t.tally.rows → in_use r (contents_in t) ≡ true → struck_answer (reading s) r room ≡ refusing (refusal still_named 0)
+  pub named : (r room : ℕ) → r < t.tally.rows → in_use r (contents_in t) ≡ true →
+      struck_answer (reading s) r room ≡ refusing (refusal still_named 0)
   pub short : (r room : ℕ) → r < t.tally.rows → in_use r (contents_in t) ≡ false → room < length (struck_bytes r (contents_in t)) →
       struck_answer (reading s) r room ≡ refusing (refusal output_too_short 0)
   pub fits : (r room : ℕ) → r < t.tally.rows → in_use r (contents_in t) ≡ false → length (struck_bytes r (contents_in t)) ≤ room →

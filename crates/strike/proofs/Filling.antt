@@ -228,7 +228,8 @@ module _ (r : ℕ) (ss : List ℕ) (es : List Entry) (many : length ss ≡ lengt
   left_all i q = rw (q, take-length es, ← many, take-length ss)
 
   -- one row more, written with its 60 into the output
-  module _ {before : List ℕ} {i at : ℕ} {out : List ℕ} (f : Filled (left_rows r ss es) before (left_to i) at out) (l : i < length es) (d : i ≡ r → ⊥)
+  module _ {before : List ℕ} {i at : ℕ} {out : List ℕ} (f : Filled (left_rows r ss es) before (left_to i) at out)
+      (l : i < length es) (d : i ≡ r → ⊥)
       (force : ℕ) (e : Entry) (behind : force ≡ left_force i) (is : e ≡ lowered r (get_or es i blank)) where
     abbrev next : List Entry
     next = change force (get_or ss i no_supplier) ++ (e ∷ [])

@@ -55,7 +55,8 @@ module _ (ss : List ℕ) (es : List Entry) (many : length ss ≡ length es) wher
   both_taken : (i : ℕ) → i ≤ length es → length (take i ss) ≡ length (take i es)
   both_taken i l = length-take-le i ss (omega arith) ∙ sym (length-take-le i es l)
 
-  pub marked_more : (i s force : ℕ) (e : Entry) → i < length es → force ≡ force_at ss i → s ≡ get_or ss i no_supplier → e ≡ get_or es i blank →
+  pub marked_more : (i s force : ℕ) (e : Entry) → i < length es → force ≡ force_at ss i →
+      s ≡ get_or ss i no_supplier → e ≡ get_or es i blank →
       marked_to (i + 1) ≡ marked_to i ++ (change force s ++ (e ∷ []))
   unfolding marked
   marked_more i s force e l f p q =

@@ -43,7 +43,8 @@ each_at P i (x ∷ xs) d h (suc j) l = let q : i + suc j ≡ suc i + j = omega a
 pub each_get : {A : Type 0} (P : ℕ → A → Type 0) (l : List A) (d : A) → Each P 0 l → (j : ℕ) → j < length l → P j (get_or l j d)
 each_get P l d h j k = let q : 0 + j ≡ j = omega arith in rw q at (each_at P 0 l d h j k)
 
-pub each_of : {A : Type 0} (P : ℕ → A → Type 0) (i : ℕ) (l : List A) (d : A) → ((j : ℕ) → j < length l → P (i + j) (get_or l j d)) → Each P i l
+pub each_of : {A : Type 0} (P : ℕ → A → Type 0) (i : ℕ) (l : List A) (d : A) → ((j : ℕ) → j < length l → P (i + j) (get_or l j d)) →
+    Each P i l
 each_of P i [] d h = tt
 each_of P i (x ∷ xs) d h =
     let q : i + 0 ≡ i = omega arith in

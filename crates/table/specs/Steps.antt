@@ -1,6 +1,7 @@
 -- The limits, what bytes are decoded to, and whether an entry may stand in a table behind so many constraints, rows and questions
 -- (01, "The table, byte by byte" and "When we say no"; 02, L5 and L6).
-use Rattle.std.specs.Prelude.{ℕ, zero, suc, ◌+◌, ◌*◌, Bool, true, false, cond, not, ◌&&◌, ◌||◌, List, [], ◌∷◌, length, get_or, drop, ltb, eqb}
+use Rattle.std.specs.Prelude.{ℕ, zero, suc, ◌+◌, ◌*◌, Bool, true, false, cond, not, ◌&&◌, ◌||◌}
+use Rattle.std.specs.Prelude.{List, [], ◌∷◌, length, get_or, drop, ltb, eqb}
 use Rattle.std.specs.Prelude.{Option, Some, None}
 use Rattle.kinds.specs.declared.Kind.{Kind}
 use Rattle.kinds.specs.declared.Kind.TheVariants.{Row, Question, Constraint, Supplier}

@@ -131,7 +131,8 @@ module _ (text : List ℕ) (at n : ℕ) (inside : at < length text) where
       last l ∙ rw was)
 
 -- the same of the line that the code found at a place
-module _ (text : List ℕ) (at n : ℕ) (inside : at < length text) (found : Line) (f : line_found found ≡ line_from at (split line_feed (drop at text))) where
+module _ (text : List ℕ) (at n : ℕ) (inside : at < length text) (found : Line)
+    (f : line_found found ≡ line_from at (split line_feed (drop at text))) where
   pub next_found : found.next ≡ (here text at n inside).next
   next_found = ap (λ (l : Found). l.next) f
 

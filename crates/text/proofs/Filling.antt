@@ -84,7 +84,8 @@ module _ (t : Table) (full : Full t) where
       let plain : ruled c ≡ marked no_supplier c.suppliers c.rows =
       rw (unchanged (last_supplier c) c.supplier refl) (append-nil (marked no_supplier c.suppliers c.rows)) in
       let all = text_append c.constraints (ruled c ++ c.questions)
-      ∙ ap (λ (l : List ℕ). text_of c.constraints ++ l) (text_append (ruled c) c.questions ∙ ap (λ (r : List Entry). text_of r ++ text_of c.questions) plain)
+      ∙ ap (λ (l : List ℕ). text_of c.constraints ++ l) (text_append (ruled c) c.questions
+      ∙ ap (λ (r : List Entry). text_of r ++ text_of c.questions) plain)
       ∙ sym (append_assoc (text_of c.constraints) (text_of (marked no_supplier c.suppliers c.rows)) (text_of c.questions)) in
       rw (
         ← first_taken blank t.constraints t.tally.constraints (omega (arith, full.fits.bound_fit, full.constraints_long)),

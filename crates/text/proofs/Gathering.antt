@@ -224,7 +224,8 @@ module _ {text bytes : List ℕ} {count : ℕ} {counts : Tally} {force line at :
             rw all
 
 -- a turn of the loop, by what the code has: the line that it found
-module _ {text bytes : List ℕ} {count : ℕ} {counts : Tally} {force line at : ℕ} (so : So text bytes count counts force line at) (inside : at < length text)
+module _ {text bytes : List ℕ} {count : ℕ} {counts : Tally} {force line at : ℕ} (so : So text bytes count counts force line at)
+    (inside : at < length text)
     (found : Line) (f : line_found found ≡ line_from at (split line_feed (drop at text))) where
   pub turn_bad : (why : Coded) → found.said ≡ Err why → from_text text ≡ refusing (refusal (number_of why.reason) line)
   turn_bad why q = at_bad so (refusal (number_of why.reason) line) (bad_found text at line inside found f why q)
@@ -259,7 +260,8 @@ module _ {text bytes : List ℕ} {count : ℕ} {counts : Tally} {force line at :
         pub turn_room : count + size_of e ≤ gather_limit
         turn_room = omega (arith, has_room so inside e good e may.0, so.there)
 
-        pub turn_in : (k n force' : ℕ) (ys : List ℕ) → k ≡ gather_limit - count → ys ≡ onto (bytes_of e) (mid_of count k bytes) → n ≡ size_of e →
+        pub turn_in : (k n force' : ℕ) (ys : List ℕ) → k ≡ gather_limit - count → ys ≡ onto (bytes_of e) (mid_of count k bytes) →
+            n ≡ size_of e →
             force' ≡ force_behind e.kind force e.a → So text (put_mid count k bytes ys) (count + n) more force' (line + 1) found.next
         turn_in k n force' ys ke ye size b =
             let room : count + size_of e ≤ length bytes = omega (arith, turn_room, so.there) in
@@ -268,7 +270,8 @@ module _ {text bytes : List ℕ} {count : ℕ} {counts : Tally} {force line at :
             so_as next _ _ _ _ (ap (λ (n : ℕ). count + n) size) may.1 b next_is
 
 -- at the end: a table's bytes
-pub gathered : {text bytes : List ℕ} {count : ℕ} {counts : Tally} {force line at : ℕ} → So text bytes count counts force line at → length text ≤ at →
+pub gathered : {text bytes : List ℕ} {count : ℕ} {counts : Tally} {force line at : ℕ} → So text bytes count counts force line at →
+    length text ≤ at →
     Gathers (from_text text) (record { bytes = bytes; length = count })
 gathered so end =
     let short = open_short so.table _ so.stands in record {

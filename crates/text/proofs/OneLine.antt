@@ -143,7 +143,8 @@ value_small : (p : List ℕ) → too_large p ≡ false → well_spelled p ≡ tr
 unfolding too_large well_spelled
 value_small p h w = leb-false number_limit (value p) (rw (both_parts (digits_alone p) _ w).0 at h)
 
-values_small : (ps : List (List ℕ)) → some too_large ps ≡ false → every well_spelled ps ≡ true → (i : ℕ) → get_or (map value ps) i 0 < number_limit
+values_small : (ps : List (List ℕ)) → some too_large ps ≡ false → every well_spelled ps ≡ true →
+    (i : ℕ) → get_or (map value ps) i 0 < number_limit
 values_small [] h w i = omega arith
 values_small (p ∷ ps) h w zero =
     value_small p (neither (too_large p) (some too_large ps) h).0 (both_parts (well_spelled p) (every well_spelled ps) w).0

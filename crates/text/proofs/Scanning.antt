@@ -61,11 +61,13 @@ module _ (kind : Kind) where
   scan_small count good a b p ps h = rw h
 
 -- the first number and the second, with a piece more
-first_more : (ps : List (List ℕ)) (p : List ℕ) → cond (eqb (length ps) 0) (worth p) (get_or (map worth ps) 0 0) ≡ get_or (map worth (ps ++ (p ∷ []))) 0 0
+first_more : (ps : List (List ℕ)) (p : List ℕ) → cond (eqb (length ps) 0) (worth p) (get_or (map worth ps) 0 0) ≡
+    get_or (map worth (ps ++ (p ∷ []))) 0 0
 first_more [] p = refl
 first_more (q ∷ ps) p = rw (ne_eqb (length (q ∷ ps)) 0 (λ e. omega arith))
 
-second_more : (ps : List (List ℕ)) (p : List ℕ) → cond (eqb (length ps) 1) (worth p) (get_or (map worth ps) 1 0) ≡ get_or (map worth (ps ++ (p ∷ []))) 1 0
+second_more : (ps : List (List ℕ)) (p : List ℕ) → cond (eqb (length ps) 1) (worth p) (get_or (map worth ps) 1 0) ≡
+    get_or (map worth (ps ++ (p ∷ []))) 1 0
 second_more [] p = refl
 second_more (q ∷ []) p = refl
 second_more (q ∷ r ∷ ps) p = rw (ne_eqb (length (q ∷ r ∷ ps)) 1 (λ e. omega arith))

@@ -14,7 +14,8 @@ use Rattle.table.proofs.suppliers.put.Goals as goal
 abbrev bytes : ℕ → ℕ → Entry → List ℕ
 bytes force s e = written (change force s ++ (e ∷ []))
 
-sized : (force s : ℕ) (e : Entry) (mark own : ℕ) → mark ≡ length (written (change force s)) → own ≡ size_of e → mark + own ≡ length (bytes force s e)
+sized : (force s : ℕ) (e : Entry) (mark own : ℕ) → mark ≡ length (written (change force s)) → own ≡ size_of e →
+    mark + own ≡ length (bytes force s e)
 sized force s e mark own m o =
     omega (arith, m, o, ap length (written_more (change force s) e), length-append (written (change force s)) (bytes_of e))
 

@@ -53,4 +53,5 @@ pub returns : goal.returns
 returns c =
     let l = c.loop-at in
     let end = turn_end c.args.kind l.count l.good l.a l.b _ _ c.loop-at-test.false in
-    ap refusing c.of-2.ensures ∙ sym (sym (scan_all c.args.kind _) ∙ sym l.invariant.says ∙ end ∙ rw (← c.body_size.ensures.0, c.if-count-body_size.false))
+    ap refusing c.of-2.ensures ∙ sym (sym (scan_all c.args.kind _) ∙ sym l.invariant.says ∙ end
+    ∙ rw (← c.body_size.ensures.0, c.if-count-body_size.false))

@@ -16,6 +16,7 @@ returns-clause-sight c =
     c.heed.ensures
     ∙ ap₂ heeding c.met-standing.ensures
     (c.look_of.ensures
-    ∙ visit_sees w.rows.now w.questions.now w.sets c.fill_sets.new.sets w.truths c.fill_truths.new.masks w.question _ a.facts w.lent (omega arith) (omega arith)
+    ∙ visit_sees w.rows.now w.questions.now w.sets c.fill_sets.new.sets w.truths c.fill_truths.new.masks w.question _ a.facts
+    w.lent (omega arith) (omega arith)
     c.fill_sets.ensures c.fill_truths.ensures)
     ∙ ap seen known
