@@ -8,9 +8,9 @@ abbrev pub One : {K : Type 0} {X A E : K → Type 0} → ((κs : K) → X κs �
 One {K} {X} {A} {E} P = (κs : K) (args : X κs) (exit : E κs) (a b : A κs) → P κs args a exit → P κs args b exit → a ≡ b
 
 -- one answer and one content for the output, which is found among the arguments at exit
-abbrev pub OneOutput : {K : Type 0} {X A E : K → Type 0} → ((κs : K) → X κs → A κs → E κs → Type 0) →
-    ((κs : K) → E κs → MutBor (List ℕ)) → Type 0
-OneOutput {K} {X} {A} {E} P out =
+abbrev pub OneOutput : {K T : Type 0} {X A E : K → Type 0} → ((κs : K) → X κs → A κs → E κs → Type 0) →
+    ((κs : K) → E κs → MutBor (List T)) → Type 0
+OneOutput {K} {T} {X} {A} {E} P out =
     (κs : K) (args : X κs) (e f : E κs) (a b : A κs) → P κs args a e → P κs args b f → (a ≡ b) × ((out κs e).now ≡ (out κs f).now)
 
 -- one part of a lent slice: the same bytes at the same place in memory
@@ -18,8 +18,3 @@ abbrev pub OnePart : {K : Type 0} {X E : K → Type 0} → ((κs : K) → X κs 
 OnePart {K} {X} {E} P =
     (κs : K) (args : X κs) (exit : E κs) (a b : Bor (List ℕ)) → P κs args a exit → P κs args b exit →
     (a.now ≡ b.now) × (a.ref_ptr ≡ b.ref_ptr)
-
--- one content, wherever in memory it stands
-abbrev pub OneContent : {K : Type 0} {X E : K → Type 0} → ((κs : K) → X κs → Bor (List ℕ) → E κs → Type 0) → Type 0
-OneContent {K} {X} {E} P =
-    (κs : K) (args : X κs) (exit : E κs) (a b : Bor (List ℕ)) → P κs args a exit → P κs args b exit → a.now ≡ b.now

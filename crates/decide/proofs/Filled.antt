@@ -63,6 +63,22 @@ module _ {A : Type 0} {answers : Entry → A → A → A → Type 0} {z : A} {es
       pub filled_values : new ≡ values f z es n ++ drop n old
       filled_values = sym (take-append-drop n new) ∙ ap₂ ◌++◌ filled_front h.behind
 
+-- a rule that has one answer to each entry and two values fills in one list
+module _ {A : Type 0} {answers : Entry → A → A → A → Type 0} {z : A} {es : List Entry} {n : ℕ} {old new other : List A}
+    (one : (e : Entry) (x y v w : A) → answers e x y v → answers e x y w → v ≡ w)
+    (h : FilledBy answers z es n old new) (k : FilledBy answers z es n old other) (room : n ≤ length old) where
+  same_front : (i : ℕ) → i ≤ n → take i new ≡ take i other
+  same_front zero l = refl
+  same_front (suc i) l =
+      let before = same_front i (omega arith) in
+      take-suc new i z (omega (arith, h.long))
+      ∙ ap₂ (λ (o : List A) (v : A). o ++ (v ∷ [])) before (one (get_or es i blank) _ _ _ _ (rw before at (h.each i (omega arith))) (k.each i (omega arith)))
+      ∙ sym (take-suc other i z (omega (arith, k.long)))
+
+  pub filled_same : new ≡ other
+  filled_same =
+      sym (take-append-drop n new) ∙ ap₂ ◌++◌ (same_front n (omega arith)) (h.behind ∙ sym k.behind) ∙ take-append-drop n other
+
 -- and in an array that was all z
 pub filled_array : {A : Type 0} {answers : Entry → A → A → A → Type 0} {z : A} {es : List Entry} {n : ℕ} {new : List A} (m : ℕ) →
     FilledBy answers z es n (replicate m z) new → n ≤ m → (f : Entry → A → A → A) →

@@ -5,14 +5,10 @@ use mathlib.Core.List.{List, [], ◌∷◌, ◌++◌}
 use Prim.Native.Nat.{ℕ, suc, ◌+◌, ◌≤◌, max}
 use native.Mathlib.Omega.{arith}
 use lib.ListN.{length, drop, set, length-append}
+pub use Rattle.kinds.proofs.Storing.{sets_append}
 use Rattle.entries.proofs.Numbers.{by_order}
 use Rattle.decimal.specs.Put.{Stores, Put}
 use lib.Seq.{set_out, sets, sets-eq, length-sets}
-
--- some bytes, and others behind them
-pub sets_append : (xs ys l : List ℕ) (i : ℕ) → sets l i (xs ++ ys) ≡ sets (sets l i xs) (i + length xs) ys
-sets_append [] ys l i = let q : i + 0 ≡ i = omega arith in rw q
-sets_append (x ∷ xs) ys l i = let q : i + suc (length xs) ≡ suc i + length xs = omega arith in rw q (sets_append xs ys (set l i x) (suc i))
 
 -- from the front on
 pub sets_front : (xs l : List ℕ) → length xs ≤ length l → sets l 0 xs ≡ xs ++ drop (length xs) l

@@ -1,5 +1,6 @@
 // Each kind's word in the text of a table, and the kind that a word spells.
 ghost use Rattle.std.specs.Prelude.{◌≡◌, ◌≤◌, ◌<◌, length};
+ghost use Rattle.std.proofs.lemmas.List.Edits.{sets};
 ghost use Rattle.kinds.specs.Words.{word_of, same, kind_spelled, longest, Guesses};
 
 use crate::{ConstraintKind, Kind, QuestionKind, RowKind};
@@ -10,8 +11,8 @@ use operators::{OneRow, TwoRow};
 // How many letters the longest has.
 const LONGEST: usize = 21;
 
-// A kind's word.
-pub fn word_of(kind: Kind) -> &'static [u8]
+// A kind's word. Where it stands in memory no promise could say, so other crates are given its size and have it written.
+fn word_of(kind: Kind) -> &'static [u8]
     ensures { result.now ≡ word_of kind }
 {
     match kind {
@@ -43,6 +44,27 @@ pub fn word_of(kind: Kind) -> &'static [u8]
         Kind::Constraint(ConstraintKind::OnlyIf) => b"only-if",
         Kind::Supplier => b"supplier",
     }
+}
+
+// How many letters a kind's word has.
+pub fn word_size(kind: Kind) -> usize
+    ensures { result ≡ length (word_of kind) }
+{
+    word_of(kind).len()
+}
+
+// A kind's word, stored onto the front of a lent output, as much of it as there are places for; its length comes back either way. Byte by byte, since
+// `copy_from_slice` of a word calls `memmove`, a name that the library for C would need from outside for this alone.
+pub fn put_word(out: &mut [u8], kind: Kind) -> usize
+    ensures { (result ≡ length (word_of kind)) × (out.new ≡ sets out.old 0 (word_of kind)) }
+{
+    let word = word_of(kind);
+    for (i, x) in word.iter().enumerate() {
+        if i < out.len() {
+            out[i] = *x;
+        }
+    }
+    word.len()
 }
 
 // By a number made of a word's ends and length: the byte of the one kind that it may spell, for speed: one guess in place of a comparison with every word.

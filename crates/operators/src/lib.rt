@@ -1,8 +1,9 @@
 // The operators on decisions by name: those of the two orders (belnap::lattice) and the others, which stand here. Under its sentence of 01, each says what
-// its decision grants, and what it denies; an override takes one of its two decisions, by whether the first is the one overridden.
+// its decision grants, and what it denies; an override takes one of its two decisions, by the claims of the first.
 #![tactic(auto)]
 
 ghost use Rattle.std.specs.Prelude.{◌≡◌};
+ghost use Rattle.belnap.specs.Decisions.{same};
 ghost use Rattle.operators.specs.Operators.{closed_default, open_default, implication as implied, guard as guarded, override, one, two};
 
 use belnap::{Decision, claiming, denies, grants, lattice};
@@ -59,11 +60,18 @@ fn guard(x: Decision, y: Decision) -> Decision
     claiming(grants(x) & grants(y), grants(x) & denies(y))
 }
 
+// Whether x is y: it is if both claims are alike. Not by the derived `==`, which compares codes: the desk asked for operators over the two claims (02, L4).
+fn same_claims(x: Decision, y: Decision) -> bool
+    ensures { result ≡ same x y }
+{
+    (grants(x) == grants(y)) & (denies(x) == denies(y))
+}
+
 // "Override of v: the second if the first is v; otherwise the first": both claims are those of y if x is v, and those of x if not.
 fn override_of(v: Decision, x: Decision, y: Decision) -> Decision
     ensures { result ≡ override v x y }
 {
-    if x == v { y } else { x }
+    if same_claims(x, v) { y } else { x }
 }
 
 // The one-row operator with a name, applied.

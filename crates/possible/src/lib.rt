@@ -5,15 +5,19 @@ pub mod sets;
 mod tables;
 
 ghost use Rattle.std.specs.Prelude.{◌≡◌, get_or};
+ghost use Rattle.std.proofs.Common.{sym, ◌∙◌};
 ghost use Rattle.belnap.specs.declared.Decision.TheVariants.{U};
+ghost use Rattle.kinds.specs.Kinds.{as_row};
+ghost use Rattle.entries.specs.Entries.{equal_numbers};
 ghost use Rattle.possible.specs.Sets.{decisions, single, mask, of_mask};
 ghost use Rattle.possible.specs.Filled.{filled};
 ghost use Rattle.possible.specs.Possible.{fact_set, set_by, set_of, possible_in};
 
 use belnap::Decision;
 use decide::Facts;
+use decide::rows::Rule;
 use entries::Entry;
-use kinds::RowKind;
+use kinds::{Kind, RowKind};
 use table::Table;
 
 // The set of a predicate row.
@@ -53,18 +57,37 @@ pub fn mask_at(masks: &[u8], n: u8) -> u8
     decide::rows::value_at(masks, n, 1)
 }
 
+// What the sets of rows are filled in by: the known facts.
+#[derive(Drop)]
+struct RowRule {
+    facts: Facts,
+}
+
+impl Rule<u8> for RowRule {
+    type Read = RowKind;
+
+    ghost reads = { as_row };
+
+    ghost answers = { λ by kind e s t v. v ≡ mask decisions
+        (set_by kind e.a (equal_numbers e) by.facts.known by.facts.yes (of_mask decisions s) (of_mask decisions t)) };
+
+    ghost one = { λ by kind e s t v w p q. p ∙ sym q };
+
+    fn read(kind: Kind) -> RowKind {
+        kinds::as_row(kind)
+    }
+
+    fn value(&self, kind: RowKind, e: Entry, s: u8, t: u8) -> u8 {
+        set_by(kind, e.a, e.a == e.b, self.facts, s, t)
+    }
+}
+
 // The sets of rows, each from those before it, into the front of what is lent, as many as there is room for.
 pub fn fill_sets(rows: &[Entry], facts: Facts, sets: &mut [u8])
     ensures { sets.new ≡
         filled decisions (set_of facts.known facts.yes) (single U) rows.now sets.old }
 {
-    decide::rows::fill(
-        rows,
-        kinds::as_row,
-        sets::only(Decision::U),
-        |kind, e, s, t| set_by(kind, e.a, e.a == e.b, facts, s, t),
-        sets,
-    );
+    decide::rows::fill(rows, &RowRule { facts }, sets::only(Decision::U), sets);
 }
 
 // The set of row `row` of a table as a mask; a row that no table has room for reads as always u.

@@ -5,16 +5,19 @@
 mod tables;
 
 ghost use Rattle.std.specs.Prelude.{ℕ, true, false, not, ◌&&◌, ◌≡◌, ◌≤◌, ◌*◌, ◌/◌, ◌%◌, ◌^◌, get_or, max};
+ghost use Rattle.std.proofs.Common.{sym, ◌∙◌};
 ghost use Rattle.belnap.specs.Orders.{at_or_below};
-ghost use Rattle.entries.specs.Entries.{number_limit};
+ghost use Rattle.kinds.specs.Kinds.{as_question};
+ghost use Rattle.entries.specs.Entries.{number_limit, equal_numbers};
 ghost use Rattle.possible.specs.Sets.{decisions, truths, single, image_one, image_two, mask, of_mask};
 ghost use Rattle.possible.specs.Filled.{filled};
 ghost use Rattle.questions.specs.Questions.{truth_set_by, asks_set};
 ghost use Rattle.questions.specs.Inner.{top_by, top_in, set_at};
 
 use belnap::orders::Order;
+use decide::rows::Rule;
 use entries::Entry;
-use kinds::QuestionKind;
+use kinds::{Kind, QuestionKind};
 
 // A comparison's outcomes as sixteen words: digit n of word m is for the sets with masks m and n, a choice from each by itself.
 fn table_of(order: Order) -> &'static [u64; 16]
@@ -67,26 +70,48 @@ fn truth_set_by(kind: QuestionKind, equal: bool, s: u8, t: u8, x: u8, y: u8) -> 
     }
 }
 
+// What the sets of questions are filled in by: the sets of the rows.
+#[derive(Drop)]
+struct QuestionRule<'a> {
+    sets: &'a [u8],
+}
+
+impl Rule<u8> for QuestionRule<'_> {
+    type Read = QuestionKind;
+
+    ghost reads = { as_question };
+
+    ghost answers = { λ by kind e x y v. v ≡ mask truths
+        (truth_set_by kind (equal_numbers e) (set_at by.sets.now e.a) (set_at by.sets.now e.b) (of_mask truths x) (of_mask truths y)) };
+
+    ghost one = { λ by kind e x y v w p q. p ∙ sym q };
+
+    fn read(kind: Kind) -> QuestionKind
+        ensures { result ≡ as_question kind }
+    {
+        kinds::as_question(kind)
+    }
+
+    fn value(&self, kind: QuestionKind, e: Entry, x: u8, y: u8) -> u8
+        ensures { result ≡ mask truths (truth_set_by kind (equal_numbers e)
+            (set_at self.now.sets.now e.a) (set_at self.now.sets.now e.b) (of_mask truths x) (of_mask truths y)) }
+    {
+        let s = possible::mask_at(self.sets, e.a);
+        let t = possible::mask_at(self.sets, e.b);
+        truth_set_by(kind, e.a == e.b, s, t, x, y)
+    }
+}
+
 // The sets of questions, from the sets of the rows, into the front of what is lent, as many as there is room for.
 pub fn fill_truths(questions: &[Entry], sets: &[u8], masks: &mut [u8])
     ensures { masks.new ≡
         filled truths (asks_set (set_at sets.now)) (single true) questions.now masks.old }
 {
-    decide::rows::fill(
-        questions,
-        kinds::as_question,
-        1,
-        |kind, e, x, y| {
-            let s = possible::mask_at(sets, e.a);
-            let t = possible::mask_at(sets, e.b);
-            truth_set_by(kind, e.a == e.b, s, t, x, y)
-        },
-        masks,
-    );
+    decide::rows::fill(questions, &QuestionRule { sets }, 1, masks);
 }
 
 // How many rows a question of this kind and these numbers looks at, where the questions that it names look at x and y. The kind is handed over beside the
-// numbers, since `fill` has read it as a question's, which an entry's own is not.
+// numbers, since it is read as a question's already, which an entry's own is not.
 fn top_by(kind: QuestionKind, a: u8, b: u8, x: u16, y: u16) -> u16
     ensures { (result ≡ top_by kind a b x y) × (x ≤ number_limit → y ≤ number_limit → result ≤ number_limit) }
 {
@@ -97,17 +122,33 @@ fn top_by(kind: QuestionKind, a: u8, b: u8, x: u16, y: u16) -> u16
     }
 }
 
+// What counts of rows are filled in by: nothing but the questions.
+#[derive(Drop)]
+struct TopRule;
+
+impl Rule<u16> for TopRule {
+    type Read = QuestionKind;
+
+    ghost reads = { as_question };
+
+    ghost answers = { λ by kind e x y v. (v ≡ top_by kind e.a e.b x y) × (x ≤ number_limit → y ≤ number_limit → v ≤ number_limit) };
+
+    ghost one = { λ by kind e x y v w p q. p.0 ∙ sym q.0 };
+
+    fn read(kind: Kind) -> QuestionKind {
+        kinds::as_question(kind)
+    }
+
+    fn value(&self, kind: QuestionKind, e: Entry, x: u16, y: u16) -> u16 {
+        top_by(kind, e.a, e.b, x, y)
+    }
+}
+
 // How many rows one of these questions looks at: those up to the highest that it reaches. One that is not there looks at none.
 pub fn top_of(questions: &[Entry], question: u8) -> usize
     ensures { (result ≡ top_in questions.now question) × (result ≤ number_limit) }
 {
     let mut tops = [0u16; entries::NUMBERS];
-    decide::rows::fill(
-        questions,
-        kinds::as_question,
-        0,
-        |kind, e, x, y| top_by(kind, e.a, e.b, x, y),
-        &mut tops,
-    );
+    decide::rows::fill(questions, &TopRule, 0, &mut tops);
     usize::from(tops[entries::index(question)])
 }

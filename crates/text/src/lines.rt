@@ -23,10 +23,7 @@ fn put_word(out: &mut [u8], at: usize, kind: Kind) -> usize
     requires { at + length (word_of kind) ≤ length out.old }
     ensures { (result ≡ at + length (word_of kind)) × (out.new ≡ sets out.old at (word_of kind)) }
 {
-    let word = words::word_of(kind);
-    let end = at + word.len();
-    out[at..end].copy_from_slice(word);
-    end
+    at + words::put_word(&mut out[at..], kind)
 }
 
 // A space and a number.
@@ -103,8 +100,7 @@ fn numbers_size(e: Entry) -> usize
 pub(crate) fn line_size(e: Entry) -> usize
     ensures { (result ≡ length (line_of e)) × (result ≤ 30) }
 {
-    let word = words::word_of(e.kind);
-    word.len() + numbers_size(e) + 1
+    words::word_size(e.kind) + numbers_size(e) + 1
 }
 
 // How many bytes it has with that of its supplier, where the one in force is another.

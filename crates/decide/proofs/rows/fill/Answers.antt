@@ -15,8 +15,8 @@ loop-i-preserved g c =
     let end = c.min-end.result in
     let here : i < min end (length es) = rw length-take at c.loop-i-test.true in
     let e : get_or (take end es) i blank ≡ get_or es i blank = get_or-take end es i blank (omega arith) in
-    filled_more i c.args.values.now c.loop-i.values c.rule-v.result c.loop-i.invariant (omega (arith, c.min-end.ensures))
-    (rw (← e) (_, c.kind_of-kind.ensures, rw (c.value_at-x.ensures, c.value_at-y.ensures) at c.rule-v.ensures))
+    filled_more i c.args.values.now c.loop-i.values c.value-v.result c.loop-i.invariant (omega (arith, c.min-end.ensures))
+    (rw (← e) (rw (c.read-read.ensures, c.value_at-x.ensures, c.value_at-y.ensures) at c.value-v.ensures))
 
 pub returns : goal.returns
 returns g c =

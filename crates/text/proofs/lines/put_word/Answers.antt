@@ -1,17 +1,24 @@
--- That `lines::put_word` (src/lines.rt) keeps its promise: the word is copied to where it is to stand.
-use Rattle.std.proofs.Common.{◌≡◌, ℕ, ◌+◌, ◌≤◌, List, length, refl, sym, ap, ◌∙◌, arith}
-use Rattle.std.proofs.Math.Seq.{sets, sets-eq, take-length}
-use Rattle.std.proofs.lemmas.Slice.{put_mid-paste}
-use borrow.Rule.Slice.PartMut.{put_mid}
+-- That `lines::put_word` (src/lines.rt) keeps its promise: over the front of the output from a place on, the word stands at that place.
+use Rattle.std.proofs.Common.{◌≡◌, ◌+◌, ◌-◌, ◌≤◌, length, take, drop, refl, sym, ap, ◌∙◌, arith}
+use mathlib.Core.List.{append_assoc}
+use lib.ListN.{length-drop}
+use lib.Seq.{drop-drop, sets, sets-eq}
+use Rattle.std.proofs.lemmas.List.{length-take}
+use Rattle.kinds.specs.Words.{word_of}
+use Rattle.entries.specs.Entries.{onto}
+use Rattle.entries.proofs.Putting.{onto_fits, put_behind}
+use Rattle.decimal.proofs.Stores.{sets_front}
 use Rattle.text.proofs.lines.put_word.Goals as goal
-
--- a part of a list that holds some bytes now: they are stored there
-copied : (at n : ℕ) (xs ys zs : List ℕ) → ys ≡ zs → n ≡ length zs → at + length zs ≤ length xs → put_mid at n xs ys ≡ sets xs at zs
-copied at n xs ys zs same long fits =
-    put_mid-paste at n xs ys zs (length zs) same (sym long) refl ∙ rw (take-length zs) (sym (sets-eq zs xs at fits))
 
 pub returns : goal.returns
 returns c =
-    let word = c.word_of-word.ensures in
-    let long = ap length word in
-    (omega (arith, long), copied _ _ _ _ _ (c.copy_from_slice.ensures.after ∙ word) (omega (arith, long)) c.requires)
+    let out = c.args.out.now in
+    let at = c.args.at in
+    let word = word_of c.args.kind in
+    let rest = take (length out - at) (drop at out) in
+    let room : length word ≤ length rest = omega (arith, c.requires, length-take (length out - at) (drop at out), length-drop at out) in
+    let front : sets rest 0 word ≡ onto word rest = sets_front word rest room ∙ sym (onto_fits word rest room) in (
+      ap (λ n. at + n) c.put_word.ensures.0,
+      put_behind out word at _ _ c.requires refl (c.put_word.ensures.1 ∙ front) ∙ rw (drop-drop (length word) at out)
+          (sym (sets-eq word out at c.requires ∙ append_assoc (take at out) word (drop (at + length word) out))),
+    )
