@@ -1,5 +1,5 @@
 -- Each kind's word in the text of a table (02, L2, L5 and L6), and the kind that a word spells.
-use Rattle.std.specs.Prelude.{ℕ, ◌≡◌, Bool, true, false, ◌&&◌, List, [], ◌∷◌, eqb, Option}
+use Rattle.std.specs.Prelude.{ℕ, ◌≡◌, ◌≤◌, Bool, true, false, ◌&&◌, List, [], ◌∷◌, eqb, length, flat_map, slice_range, Option}
 use Prim.Native.Char.{code}
 use Prim.Native.String.{String, [] as nothing, ◌∷◌ as ◌then◌}
 use Rattle.belnap.specs.declared.Decision.TheVariants.{U, D, G, C}
@@ -51,6 +51,14 @@ bytes (letter then more) = code letter ∷ bytes more
 
 unfoldable pub word_of : Kind → List ℕ
 word_of kind = bytes (spelling kind)
+
+-- The words of all kinds, one behind the other, as the code keeps them; and that a kind's word stands there, from a start up to an end. No service's
+-- promise speaks of these two.
+abbrev pub letters : List ℕ
+letters = flat_map word_of kinds
+
+abbrev pub Stands : Kind → ℕ → ℕ → Type 0
+Stands kind start end = (start ≤ end) × (end ≤ length letters) × (slice_range letters start end ≡ word_of kind)
 
 -- whether two byte strings are the same
 abbrev pub same : List ℕ → List ℕ → Bool

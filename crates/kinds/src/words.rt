@@ -1,7 +1,7 @@
 // Each kind's word in the text of a table, and the kind that a word spells.
 ghost use Rattle.std.specs.Prelude.{◌≡◌, ◌≤◌, ◌<◌, length};
 ghost use Rattle.std.proofs.lemmas.List.Edits.{sets};
-ghost use Rattle.kinds.specs.Words.{word_of, same, kind_spelled, longest, Guesses};
+ghost use Rattle.kinds.specs.Words.{word_of, same, kind_spelled, longest, Stands, Guesses};
 
 use crate::{ConstraintKind, Kind, QuestionKind, RowKind};
 use belnap::Decision;
@@ -11,39 +11,70 @@ use operators::{OneRow, TwoRow};
 // How many letters the longest has.
 const LONGEST: usize = 21;
 
+// The kinds' words, one behind the other; numbers say where each stands. A literal for each would become a table of pointers, and these must be fitted to
+// where a program is loaded, which nobody does for one that has no C library.
+const LETTERS: [u8; 285] =
+    *b"unspecifieddenygrantconflictdeny-ifgrant-ifnegationconflationclosed-defaultopen-defaulttruth-meettruth-joinknowledge-meetknowledge-join\
+    implicationguardoverride-unspecifiedoverride-denyoverride-grantoverride-conflicttruth-at-or-belowknowledge-at-or-belownotbothnever-both\
+    only-ifsupplier";
+
+// Where a kind's word starts among these letters, and where it ends.
+#[tactic(auto, unfolding(crate::specs::Words::word_of))]
+fn place_of(kind: Kind) -> (usize, usize)
+    ensures { Stands kind result.0 result.1 }
+{
+    match kind {
+        Kind::Row(row) => match row {
+            RowKind::Always(v) => match v {
+                Decision::U => (0, 11),
+                Decision::D => (11, 15),
+                Decision::G => (15, 20),
+                Decision::C => (20, 28),
+            },
+            RowKind::DenyIf => (28, 35),
+            RowKind::GrantIf => (35, 43),
+            RowKind::One(op) => match op {
+                OneRow::Negation => (43, 51),
+                OneRow::Conflation => (51, 61),
+                OneRow::ClosedDefault => (61, 75),
+                OneRow::OpenDefault => (75, 87),
+            },
+            RowKind::Two(op) => match op {
+                TwoRow::TruthMeet => (87, 97),
+                TwoRow::TruthJoin => (97, 107),
+                TwoRow::KnowledgeMeet => (107, 121),
+                TwoRow::KnowledgeJoin => (121, 135),
+                TwoRow::Implication => (135, 146),
+                TwoRow::Guard => (146, 151),
+                TwoRow::OverrideU => (151, 171),
+                TwoRow::OverrideD => (171, 184),
+                TwoRow::OverrideG => (184, 198),
+                TwoRow::OverrideC => (198, 215),
+            },
+        },
+        Kind::Question(question) => match question {
+            QuestionKind::Compare(order) => match order {
+                Order::Truth => (215, 232),
+                Order::Knowledge => (232, 253),
+            },
+            QuestionKind::Not => (253, 256),
+            QuestionKind::Both => (256, 260),
+        },
+        Kind::Constraint(constraint) => match constraint {
+            ConstraintKind::NeverBoth => (260, 270),
+            ConstraintKind::OnlyIf => (270, 277),
+        },
+        Kind::Supplier => (277, 285),
+    }
+}
+
 // A kind's word. Where it stands in memory no promise could say, so other crates are given its size and have it written.
+#[tactic(auto, unfolding(crate::specs::Words::word_of))]
 fn word_of(kind: Kind) -> &'static [u8]
     ensures { result.now ≡ word_of kind }
 {
-    match kind {
-        Kind::Row(RowKind::Always(Decision::U)) => b"unspecified",
-        Kind::Row(RowKind::Always(Decision::D)) => b"deny",
-        Kind::Row(RowKind::Always(Decision::G)) => b"grant",
-        Kind::Row(RowKind::Always(Decision::C)) => b"conflict",
-        Kind::Row(RowKind::DenyIf) => b"deny-if",
-        Kind::Row(RowKind::GrantIf) => b"grant-if",
-        Kind::Row(RowKind::One(OneRow::Negation)) => b"negation",
-        Kind::Row(RowKind::One(OneRow::Conflation)) => b"conflation",
-        Kind::Row(RowKind::One(OneRow::ClosedDefault)) => b"closed-default",
-        Kind::Row(RowKind::One(OneRow::OpenDefault)) => b"open-default",
-        Kind::Row(RowKind::Two(TwoRow::TruthMeet)) => b"truth-meet",
-        Kind::Row(RowKind::Two(TwoRow::TruthJoin)) => b"truth-join",
-        Kind::Row(RowKind::Two(TwoRow::KnowledgeMeet)) => b"knowledge-meet",
-        Kind::Row(RowKind::Two(TwoRow::KnowledgeJoin)) => b"knowledge-join",
-        Kind::Row(RowKind::Two(TwoRow::Implication)) => b"implication",
-        Kind::Row(RowKind::Two(TwoRow::Guard)) => b"guard",
-        Kind::Row(RowKind::Two(TwoRow::OverrideU)) => b"override-unspecified",
-        Kind::Row(RowKind::Two(TwoRow::OverrideD)) => b"override-deny",
-        Kind::Row(RowKind::Two(TwoRow::OverrideG)) => b"override-grant",
-        Kind::Row(RowKind::Two(TwoRow::OverrideC)) => b"override-conflict",
-        Kind::Question(QuestionKind::Compare(Order::Truth)) => b"truth-at-or-below",
-        Kind::Question(QuestionKind::Compare(Order::Knowledge)) => b"knowledge-at-or-below",
-        Kind::Question(QuestionKind::Not) => b"not",
-        Kind::Question(QuestionKind::Both) => b"both",
-        Kind::Constraint(ConstraintKind::NeverBoth) => b"never-both",
-        Kind::Constraint(ConstraintKind::OnlyIf) => b"only-if",
-        Kind::Supplier => b"supplier",
-    }
+    let (start, end) = place_of(kind);
+    &LETTERS[start..end]
 }
 
 // How many letters a kind's word has.

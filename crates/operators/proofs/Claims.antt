@@ -1,5 +1,5 @@
--- What the defaults, implication and guard grant and deny: the rules that the code says (src/lib.rt), each computed to be the definition's at every
--- decision. And two decisions are the same where both claims are equal.
+-- What the defaults, implication and guard grant and deny, and when two decisions are the same: the rules that the code says (src/lib.rt), each computed
+-- to be the definition's at every decision.
 -- Assumes nothing.
 use mathlib.Core.Path.{◌≡◌, refl}
 use mathlib.Core.Bool.{Bool, beq, not, ◌&&◌, ◌||◌}

@@ -8,6 +8,8 @@ use Rattle.possible.proofs.sets.digit.Reads as digit
 use Rattle.possible.proofs.mask_at.Reads as mask_at
 use Rattle.possible.proofs.fill_sets.Reads as fill_sets
 use Rattle.possible.proofs.possible.Reads as possible
+use Rattle.possible.proofs.RowRuleRuleU8.read.Reads as row_read
+use Rattle.possible.proofs.RowRuleRuleU8.value.Reads as row_value
 
 pub one_digit : One digit.Post
 one_digit κs args exit = by_definition
@@ -21,3 +23,9 @@ one_filling κs args e f a b p q = (refl, by_definition _ _ p q)
 
 pub one_set : One possible.Post
 one_set κs args exit = by_definition
+
+pub one_row_read : One row_read.Post
+one_row_read κs args exit = by_definition
+
+pub one_row_value : One row_value.Post
+one_row_value κs args exit = by_definition

@@ -1,5 +1,5 @@
 -- That `words::put_word` (src/words.rt) keeps its promise: each letter is stored where there is a place for it.
-use Rattle.std.proofs.Common.{◌≡◌, sym, ap, ◌∙◌, arith, get_or}
+use Rattle.std.proofs.Common.{sym, ap, ◌∙◌, arith, get_or}
 use lib.ListN.{set}
 use lib.Seq.{set_out}
 use Rattle.kinds.proofs.Storing.{sets_more}
