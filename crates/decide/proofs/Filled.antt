@@ -71,8 +71,9 @@ module _ {A : Type 0} {answers : Entry → A → A → A → Type 0} {z : A} {es
   same_front zero l = refl
   same_front (suc i) l =
       let before = same_front i (omega arith) in
+      let value = one (get_or es i blank) _ _ _ _ (rw before at (h.each i (omega arith))) (k.each i (omega arith)) in
       take-suc new i z (omega (arith, h.long))
-      ∙ ap₂ (λ (o : List A) (v : A). o ++ (v ∷ [])) before (one (get_or es i blank) _ _ _ _ (rw before at (h.each i (omega arith))) (k.each i (omega arith)))
+      ∙ ap₂ (λ (o : List A) (v : A). o ++ (v ∷ [])) before value
       ∙ sym (take-suc other i z (omega (arith, k.long)))
 
   pub filled_same : new ≡ other

@@ -10,9 +10,9 @@ pub loop-i-preserved : goal.loop-i-preserved
 loop-i-preserved c =
     let word = c.word_of-word.result.now in
     let i = c.loop-i.i in
-    let more = sets_more word c.args.out.now i c.loop-i-test.true in
     let letter = get_or word i 0 in
+    let more = ap (λ l. set l i letter) c.loop-i.invariant ∙ sym (sets_more word c.args.out.now i c.loop-i-test.true) in
     elim c.if-i-out.branch [
-      | then-i-out w ↦ w.out-is ∙ ap (λ l. set l i letter) c.loop-i.invariant ∙ sym more
-      | else-i-out w ↦ w.out-is ∙ sym (set_out c.loop-i.out i letter (omega (arith, w.if-i-out.false))) ∙ ap (λ l. set l i letter) c.loop-i.invariant ∙ sym more
+      | then-i-out w ↦ w.out-is ∙ more
+      | else-i-out w ↦ w.out-is ∙ sym (set_out c.loop-i.out i letter (omega (arith, w.if-i-out.false))) ∙ more
     ]
