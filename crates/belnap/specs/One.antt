@@ -18,3 +18,8 @@ abbrev pub OnePart : {K : Type 0} {X E : K → Type 0} → ((κs : K) → X κs 
 OnePart {K} {X} {E} P =
     (κs : K) (args : X κs) (exit : E κs) (a b : Bor (List ℕ)) → P κs args a exit → P κs args b exit →
     (a.now ≡ b.now) × (a.ref_ptr ≡ b.ref_ptr)
+
+-- one content, wherever in memory it stands: of an inner call that returns a part of a constant, whose place nothing can say
+abbrev pub OneContent : {K : Type 0} {X E : K → Type 0} → ((κs : K) → X κs → Bor (List ℕ) → E κs → Type 0) → Type 0
+OneContent {K} {X} {E} P =
+    (κs : K) (args : X κs) (exit : E κs) (a b : Bor (List ℕ)) → P κs args a exit → P κs args b exit → a.now ≡ b.now

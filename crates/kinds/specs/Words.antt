@@ -1,5 +1,6 @@
 -- Each kind's word in the text of a table (02, L2, L5 and L6), and the kind that a word spells.
-use Rattle.std.specs.Prelude.{ℕ, ◌≡◌, ◌≤◌, Bool, true, false, ◌&&◌, List, [], ◌∷◌, eqb, length, flat_map, slice_range, Option}
+use Rattle.std.specs.Prelude.{ℕ, ◌≡◌, ◌+◌, ◌≤◌, Bool, true, false, ◌&&◌, cond, eqb, Option}
+use Rattle.std.specs.Prelude.{List, [], ◌∷◌, length, flat_map, slice_range}
 use Prim.Native.Char.{code}
 use Prim.Native.String.{String, [] as nothing, ◌∷◌ as ◌then◌}
 use Rattle.belnap.specs.declared.Decision.TheVariants.{U, D, G, C}
@@ -52,13 +53,20 @@ bytes (letter then more) = code letter ∷ bytes more
 unfoldable pub word_of : Kind → List ℕ
 word_of kind = bytes (spelling kind)
 
--- The words of all kinds, one behind the other, as the code keeps them; and that a kind's word stands there, from a start up to an end. No service's
--- promise speaks of these two.
+-- The words of all kinds, one behind the other, as the code keeps them; that a kind's word stands there, from a start up to an end; and that a word starts
+-- where those of the kinds before it end. The promise of `place_of` (src/words.rt) speaks of these, and no service's does.
 abbrev pub letters : List ℕ
 letters = flat_map word_of kinds
 
 abbrev pub Stands : Kind → ℕ → ℕ → Type 0
 Stands kind start end = (start ≤ end) × (end ≤ length letters) × (slice_range letters start end ≡ word_of kind)
+
+abbrev pub before : Kind → List Kind → ℕ
+before kind [] = 0
+before kind (other ∷ more) = cond (eqb (form_of other).byte (form_of kind).byte) 0 (length (word_of other) + before kind more)
+
+abbrev pub starts : Kind → ℕ → Bool
+starts kind start = eqb start (before kind kinds)
 
 -- whether two byte strings are the same
 abbrev pub same : List ℕ → List ℕ → Bool

@@ -1,7 +1,7 @@
 // Each kind's word in the text of a table, and the kind that a word spells.
-ghost use Rattle.std.specs.Prelude.{◌≡◌, ◌≤◌, ◌<◌, length};
+ghost use Rattle.std.specs.Prelude.{◌≡◌, ◌≤◌, ◌<◌, length, IsTrue};
 ghost use Rattle.std.proofs.lemmas.List.Edits.{sets};
-ghost use Rattle.kinds.specs.Words.{word_of, same, kind_spelled, longest, Stands, Guesses};
+ghost use Rattle.kinds.specs.Words.{word_of, same, kind_spelled, longest, starts, Stands, Guesses};
 
 use crate::{ConstraintKind, Kind, QuestionKind, RowKind};
 use belnap::Decision;
@@ -13,15 +13,17 @@ const LONGEST: usize = 21;
 
 // The kinds' words, one behind the other; numbers say where each stands. A literal for each would become a table of pointers, and these must be fitted to
 // where a program is loaded, which nobody does for one that has no C library.
-const LETTERS: [u8; 285] =
+pub const LETTERS: [u8; 285] =
     *b"unspecifieddenygrantconflictdeny-ifgrant-ifnegationconflationclosed-defaultopen-defaulttruth-meettruth-joinknowledge-meetknowledge-join\
     implicationguardoverride-unspecifiedoverride-denyoverride-grantoverride-conflicttruth-at-or-belowknowledge-at-or-belownotbothnever-both\
     only-ifsupplier";
 
-// Where a kind's word starts among these letters, and where it ends.
+// Where a kind's word starts among these letters, and where it ends: `&LETTERS[start..end]` is the word itself, for as long as the program runs and with no
+// copy made, as the check finds where the definition `word_of` is unfolded: `#[tactic(auto, unfolding(kinds::specs::Words::word_of))]` at the function that
+// borrows it. No public call hands the word out, since of where a constant stands in memory nothing can be promised.
 #[tactic(auto, unfolding(crate::specs::Words::word_of))]
-fn place_of(kind: Kind) -> (usize, usize)
-    ensures { Stands kind result.0 result.1 }
+pub fn place_of(kind: Kind) -> (usize, usize)
+    ensures { IsTrue (starts kind result.0) × Stands kind result.0 result.1 }
 {
     match kind {
         Kind::Row(row) => match row {
@@ -68,9 +70,10 @@ fn place_of(kind: Kind) -> (usize, usize)
     }
 }
 
-// A kind's word. Where it stands in memory no promise could say, so other crates are given its size and have it written.
+// A kind's word, as it stands among the letters. Where in memory that is no promise could say, so other crates are given its place and its size, and have it
+// written. It is the crate's, and not this file's alone, for proofs/Unique.antt, which names its promise.
 #[tactic(auto, unfolding(crate::specs::Words::word_of))]
-fn word_of(kind: Kind) -> &'static [u8]
+pub(crate) fn word_of(kind: Kind) -> &'static [u8]
     ensures { result.now ≡ word_of kind }
 {
     let (start, end) = place_of(kind);
@@ -135,5 +138,34 @@ pub fn kind_of_word(w: &[u8]) -> Option<Kind>
     match crate::kind_of(guess(w)) {
         Some(kind) if spells(w, kind) => Some(kind),
         _ => None,
+    }
+}
+
+#[cfg(test)]
+mod tests {
+    use super::*;
+
+    // What the promise of `place_of` means: the first kind's word begins the letters, and the last's ends them.
+    #[test]
+    fn words_stand_at_their_places(rt: HostRuntime) {
+        let words: [(u8, usize, &[u8]); 4] = [
+            (0x00, 0, b"unspecified"),
+            (0x01, 11, b"deny"),
+            (0x30, 87, b"truth-meet"),
+            (0x60, 277, b"supplier"),
+        ];
+        for (byte, at, word) in words {
+            let place = crate::kind_of(byte).map(place_of);
+            assert_eq!(rt;
+                place,
+                Some((at, at + word.len())),
+                "the place of byte {byte}"
+            );
+            assert_eq!(rt;
+                LETTERS.get(at..at + word.len()),
+                Some(word),
+                "the word of byte {byte}"
+            );
+        }
     }
 }
