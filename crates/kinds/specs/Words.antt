@@ -53,18 +53,20 @@ bytes (letter then more) = code letter ∷ bytes more
 unfoldable pub word_of : Kind → List ℕ
 word_of kind = bytes (spelling kind)
 
--- The words of all kinds, one behind the other, as the code keeps them; that a kind's word stands there, from a start up to an end; and that a word starts
--- where those of the kinds before it end. The promise of `place_of` (src/words.rt) speaks of these, and no service's does.
+-- The words of all kinds, one behind the other, as the code keeps them; and that a kind's word stands there, from a start up to an end. The promise of
+-- `place_of` (src/words.rt) speaks of these and of `starts`, and no service's does.
 abbrev pub letters : List ℕ
 letters = flat_map word_of kinds
 
 abbrev pub Stands : Kind → ℕ → ℕ → Type 0
 Stands kind start end = (start ≤ end) × (end ≤ length letters) × (slice_range letters start end ≡ word_of kind)
 
+-- how many letters the words have of those kinds that stand before a kind in a list
 abbrev pub before : Kind → List Kind → ℕ
 before kind [] = 0
 before kind (other ∷ more) = cond (eqb (form_of other).byte (form_of kind).byte) 0 (length (word_of other) + before kind more)
 
+-- whether a kind's word starts there: behind the words of all kinds before it
 abbrev pub starts : Kind → ℕ → Bool
 starts kind start = eqb start (before kind kinds)
 

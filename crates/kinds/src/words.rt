@@ -1,4 +1,4 @@
-// Each kind's word in the text of a table, and the kind that a word spells.
+// Each kind's word in the text of a table, where it stands among the letters of all, and the kind that a word spells.
 ghost use Rattle.std.specs.Prelude.{◌≡◌, ◌≤◌, ◌<◌, length, IsTrue};
 ghost use Rattle.std.proofs.lemmas.List.Edits.{sets};
 ghost use Rattle.kinds.specs.Words.{word_of, same, kind_spelled, longest, starts, Stands, Guesses};
